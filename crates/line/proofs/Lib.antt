@@ -1,0 +1,4 @@
+pub mod Same
+pub mod Reading
+pub mod Sayings
+pub mod Recordings

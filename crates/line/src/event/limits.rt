@@ -1,0 +1,53 @@
+//! How a height and a number of ticks are made and read.
+ghost use mathlib.Core.Path.{_≡_};
+ghost use Rattle.line.specs.Events.{height, HeightMade, TicksMade};
+use crate::event::Height;
+use crate::event::Ticks;
+use crate::refusal::Refusal;
+
+impl Height {
+    /// The height of `mv` millivolts, refused by 1 above 8,191.
+    pub fn new(mv: u16) -> Result<Height, Refusal>
+        ensures { λ r. ⌜ HeightMade mv r ⌝ }
+    {
+        if mv > 8191 {
+            return Err(Refusal::HeightOutOfRange);
+        }
+        Ok(Height { mv })
+    }
+
+    /// The height in the low 13 bits of a word.
+    pub(crate) fn in_word(word: u32) -> Height
+        ensures { λ r. ⌜ r ≡ height word ⌝ }
+    {
+        Height {
+            mv: (word & 0x1fff) as u16,
+        }
+    }
+
+    /// The height in millivolts.
+    pub fn mv(self) -> u16
+        ensures { λ r. ⌜ r ≡ self .mv ⌝ }
+    {
+        self.mv
+    }
+}
+
+impl Ticks {
+    /// `count` ticks, refused by 2 outside 1 to 1,073,741,823.
+    pub fn new(count: u32) -> Result<Ticks, Refusal>
+        ensures { λ r. ⌜ TicksMade count r ⌝ }
+    {
+        if count < 1 || count > 1_073_741_823 {
+            return Err(Refusal::TicksOutOfRange);
+        }
+        Ok(Ticks { count })
+    }
+
+    /// The number of ticks.
+    pub fn count(self) -> u32
+        ensures { λ r. ⌜ r ≡ self .count ⌝ }
+    {
+        self.count
+    }
+}

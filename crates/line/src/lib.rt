@@ -1,0 +1,13 @@
+//! Events on the cable, and lines of them.
+//!
+//! A line is anything that hands out events one by one and then says how it ended. A recorder's words are a line, and a
+//! gate or a turn over any line is again one.
+pub mod ending;
+pub mod event;
+pub mod gate;
+pub mod line;
+pub mod pile;
+pub mod recording;
+pub mod refusal;
+pub mod threshold;
+pub mod turn;

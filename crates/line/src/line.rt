@@ -1,0 +1,20 @@
+//! Lines, by what they mean.
+ghost use mathlib.Core.List.{List};
+ghost use Rattle.line.specs.declared.ending.Ending.{Ending};
+ghost use Rattle.line.specs.declared.event.Event.{Event};
+ghost use Rattle.line.specs.Lines.{Took};
+use crate::ending::LineFault;
+use crate::event::Event;
+
+/// A line of events: the list of those that wait in it, and an ending.
+pub trait Line {
+    /// The events that wait, the next one first.
+    ghost waits: { Self → List Event };
+
+    /// How the line ends once none waits.
+    ghost ending: { Self → Ending };
+
+    /// Answers the first waiting event and removes just that one; where none waits, the ending, the same each time.
+    fn take(&mut self) -> Result<Option<Event>, LineFault>
+        ensures { λ r. ⌜ Took (waits (now (self .entry))) (ending (now (self .entry))) r (waits (now (self .exit))) (ending (now (self .exit))) ⌝ };
+}

@@ -1,0 +1,32 @@
+//! A recording: a line read from the caller's words.
+ghost use Prim.Native.Nat.{_≤_};
+ghost use lib.ListN.{length};
+use crate::event::Event;
+
+pub mod reads;
+
+/// A recorder's words, lent, and the number of the next one to read. No word is copied.
+#[derive(Drop)]
+pub struct Recording<'a> {
+    words: &'a [u32],
+    at: usize,
+    ghost within: { at ≤ length (words .now) },
+}
+
+/// What is wrong with a word, or with the words as a whole.
+#[derive(Clone, Copy)]
+pub enum Flaw {
+    UnknownKind,
+    EmptyQuiet,
+    UsedSpareBits,
+    NoEnd,
+    WrongCount,
+}
+
+/// What one word of a recording says.
+#[derive(Clone, Copy)]
+pub enum Word {
+    Heard(Event),
+    End,
+    Bad(Flaw),
+}
