@@ -5,4 +5,5 @@ pub mod Lines
 pub mod Layers
 pub mod Piles
 pub mod Words
+pub mod Bytes
 pub mod Recorded

@@ -11,3 +11,4 @@ pub mod recording;
 pub mod refusal;
 pub mod threshold;
 pub mod turn;
+pub mod words;
