@@ -14,8 +14,8 @@ use Rattle.line.specs.declared.event.Event.{Event}
 use Rattle.line.specs.declared.event.Event.the-variants.{Pulse, Quiet}
 use Rattle.line.specs.declared.event.Polarity.{Polarity}
 use Rattle.line.specs.declared.event.Polarity.the-variants.{Negative, Positive}
-use Rattle.asidump.specs.declared.text.Entry.{Entry}
-use Rattle.asidump.specs.declared.text.Entry.the-variants as entry
+use Rattle.asidump.specs.declared.text.Item.{Item}
+use Rattle.asidump.specs.declared.text.Item.the-variants as item
 
 abbrev pub sign-text : Polarity → List ℕ
 sign-text Negative = codes "-"
@@ -29,6 +29,6 @@ abbrev pub ending-text : Ending → List ℕ
 ending-text Dry = codes "end"
 ending-text (Broken f) = codes "broken " ++ (decimal (f .cause) ++ (codes " " ++ decimal (f .place)))
 
-abbrev pub text-of : Entry → List ℕ
-text-of (entry.Event e) = event-text e
-text-of (entry.Ending e) = ending-text e
+abbrev pub text-of : Item → List ℕ
+text-of (item.Event e) = event-text e
+text-of (item.Ending e) = ending-text e

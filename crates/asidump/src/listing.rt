@@ -6,8 +6,8 @@ ghost use Rattle.line.specs.Words.{content};
 ghost use Rattle.std.specs.Of.String.{string-bytes};
 ghost use Rattle.std.specs.Vec.{made};
 ghost use lib.ListN.{take};
-use crate::text::Entry;
-use crate::text::EntryDisplay;
+use crate::text::Item;
+use crate::text::ItemDisplay;
 use line::ending::Ending;
 use line::line::Line;
 use line::recording::Recording;
@@ -26,7 +26,7 @@ fn list_events<L: Line>(line: &mut L, text: &mut String) -> Result<Ending, fmt::
             Err(fault) => return Ok(Ending::Broken(fault)),
         };
         match taken {
-            Some(event) => writeln!(text, "{}", Entry::Event(event))?,
+            Some(event) => writeln!(text, "{}", Item::Event(event))?,
             None => return Ok(Ending::Dry),
         }
     }
@@ -42,6 +42,6 @@ pub fn list_recording(heap: Global, bytes: &[u8]) -> Result<String, fmt::Error>
     let mut recording = Recording::new(&words[0..count]);
     let mut text = String::new(heap);
     let ending = list_events(&mut recording, &mut text)?;
-    writeln!(text, "{}", Entry::Ending(ending))?;
+    writeln!(text, "{}", Item::Ending(ending))?;
     Ok(text)
 }

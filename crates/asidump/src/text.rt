@@ -8,17 +8,17 @@ use std::fmt;
 
 /// What one line of a listing shows.
 #[derive(Clone, Copy)]
-pub enum Entry {
+pub enum Item {
     Event(Event),
     Ending(Ending),
 }
 
-pub impl fmt::Display for Entry as EntryDisplay {
+pub impl fmt::Display for Item as ItemDisplay {
     ghost shown = { λ e. Some (text-of e) };
 
     fn fmt<W: fmt::Write>(&self, f: &mut fmt::Formatter<W>) -> fmt::Result {
         match self {
-            Entry::Event(event) => match event {
+            Item::Event(event) => match event {
                 Event::Pulse(polarity, height) => {
                     let mv = height.mv();
                     match polarity {
@@ -31,7 +31,7 @@ pub impl fmt::Display for Entry as EntryDisplay {
                     write!(f, "quiet {count}")
                 }
             },
-            Entry::Ending(ending) => match ending {
+            Item::Ending(ending) => match ending {
                 Ending::Dry => write!(f, "end"),
                 Ending::Broken(fault) => {
                     let cause = fault.cause;

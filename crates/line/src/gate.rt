@@ -13,7 +13,7 @@ pub struct Gate<L> {
     threshold: Threshold,
 }
 
-impl<L> Gate<L> {
+impl<L: Line> Gate<L> {
     /// A gate over the line `below`.
     pub fn new(below: L, threshold: Threshold) -> Gate<L>
         ensures below { λ r. ⌜ r .below ≡ below ⌝ }

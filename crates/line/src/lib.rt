@@ -9,6 +9,8 @@ pub mod line;
 pub mod pile;
 pub mod recording;
 pub mod refusal;
+#[cfg(test)]
+mod tests;
 pub mod threshold;
 pub mod turn;
 pub mod words;

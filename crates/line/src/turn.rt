@@ -13,7 +13,7 @@ pub struct Turn<L> {
     below: L,
 }
 
-impl<L> Turn<L> {
+impl<L: Line> Turn<L> {
     /// A turn over the line `below`.
     pub fn new(below: L) -> Turn<L>
         ensures { λ r. ⌜ r .below ≡ below ⌝ }

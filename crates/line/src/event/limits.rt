@@ -5,12 +5,18 @@ use crate::event::Height;
 use crate::event::Ticks;
 use crate::refusal::Refusal;
 
+// The greatest height, in millivolts.
+const HIGHEST: u16 = 8191;
+
+// The most ticks of one quiet.
+const LONGEST: u32 = 1_073_741_823;
+
 impl Height {
     /// The height of `mv` millivolts, refused by 1 above 8,191.
     pub fn new(mv: u16) -> Result<Height, Refusal>
         ensures { λ r. ⌜ HeightMade mv r ⌝ }
     {
-        if mv > 8191 {
+        if mv > HIGHEST {
             return Err(Refusal::HeightOutOfRange);
         }
         Ok(Height { mv })
@@ -38,7 +44,7 @@ impl Ticks {
     pub fn new(count: u32) -> Result<Ticks, Refusal>
         ensures { λ r. ⌜ TicksMade count r ⌝ }
     {
-        if count < 1 || count > 1_073_741_823 {
+        if count < 1 || count > LONGEST {
             return Err(Refusal::TicksOutOfRange);
         }
         Ok(Ticks { count })

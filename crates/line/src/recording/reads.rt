@@ -1,7 +1,7 @@
 //! How a recording is read.
 ghost use mathlib.Core.Path.{_≡_};
 ghost use Rattle.line.specs.Recorded.{Records};
-ghost use Rattle.line.specs.Words.{end-says, fault, from, pulse-says, quiet-says, says};
+ghost use Rattle.line.specs.Words.{end-says, fault, from, low, pulse-says, quiet-says, says};
 use crate::ending::LineFault;
 use crate::event::Event;
 use crate::event::Height;
@@ -31,11 +31,18 @@ impl Flaw {
     }
 }
 
+// The low 30 bits of a word.
+fn low(word: u32) -> u32
+    ensures { λ r. ⌜ r ≡ low word ⌝ }
+{
+    word & 0x3fff_ffff
+}
+
 // What a word of kind 0 says: a quiet, its ticks in the low 30 bits.
 fn read_quiet(word: u32) -> Word
     ensures { λ r. ⌜ r ≡ quiet-says word ⌝ }
 {
-    match Ticks::new(word & 0x3fff_ffff) {
+    match Ticks::new(low(word)) {
         Ok(ticks) => Word::Heard(Event::Quiet(ticks)),
         Err(_) => Word::Bad(Flaw::EmptyQuiet),
     }
@@ -60,7 +67,7 @@ fn read_pulse(word: u32) -> Word
 fn read_end(place: usize, word: u32) -> Word
     ensures { λ r. ⌜ r ≡ end-says place word ⌝ }
 {
-    if (word & 0x3fff_ffff) as usize == place {
+    if low(word) as usize == place {
         Word::End
     } else {
         Word::Bad(Flaw::WrongCount)

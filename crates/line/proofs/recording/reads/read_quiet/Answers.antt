@@ -1,7 +1,6 @@
 -- Of the numbers of 30 bits just 0 makes no ticks.
 use mathlib.Core.Path.{_≡_}
 use native.Mathlib.Omega.{arith}
-use Rattle.std.proofs.shelf.Bits.{and-mask}
 use Rattle.std.proofs.shelf.Ways.{tells}
 use Rattle.line.specs.Events.{ticks}
 use Rattle.line.proofs.Same.{same-ticks}
@@ -9,10 +8,9 @@ use Rattle.line.proofs.recording.reads.read_quiet.Needs as need
 
 pub returns-in-Ok : need.returns-in-Ok
 returns-in-Ok c =
-    let m = and-mask (c .args .word) 30 in
     let h = c .in-Ok .ensures tt in
     let t : c .in-Ok .ticks ≡ ticks (c .args .word) = same-ticks _ _ (omega arith) in
     grind (arith, tells)
 
 pub returns-in-Err : need.returns-in-Err
-returns-in-Err c = let m = and-mask (c .args .word) 30 in let h = c .in-Err .ensures tt in grind (arith, tells)
+returns-in-Err c = let h = c .in-Err .ensures tt in grind (arith, tells)
