@@ -7,7 +7,7 @@ use lib.ListN.{take, drop}
 use Rattle.std.proofs.shelf.Lists.{append-assoc}
 use Rattle.line.specs.declared.ending.Ending.{Ending}
 use Rattle.line.specs.declared.event.Event.{Event}
-use Rattle.line.specs.Words.{Content, content, from}
+use Rattle.line.specs.Decoding.{Content, content, from}
 use Rattle.asidump.specs.Text.{event-text}
 use Rattle.asidump.specs.Listing.{Listed, ending-line, event-lines, listing}
 

@@ -10,7 +10,7 @@ use mathlib.Core.Path.{_≡_}
 use Rattle.std.specs.shelf.Lists.{joined}
 use Rattle.line.specs.declared.ending.Ending.{Ending}
 use Rattle.line.specs.declared.event.Event.{Event}
-use Rattle.line.specs.Words.{Content}
+use Rattle.line.specs.Decoding.{Content}
 use Rattle.asidump.specs.Text.{ending-text, event-text}
 
 abbrev pub event-lines : List Event → List ℕ

@@ -2,7 +2,7 @@
 ghost use mathlib.Core.Path.{_≡_};
 ghost use Rattle.asidump.specs.Listing.{Listed, listing};
 ghost use Rattle.line.specs.Bytes.{words-of};
-ghost use Rattle.line.specs.Words.{content};
+ghost use Rattle.line.specs.Decoding.{content};
 ghost use Rattle.std.specs.Of.String.{string-bytes};
 ghost use Rattle.std.specs.Vec.{made};
 ghost use lib.ListN.{take};

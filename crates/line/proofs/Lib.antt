@@ -1,6 +1,6 @@
 pub mod Same
 pub mod Reading
-pub mod Sayings
+pub mod Decoded
 pub mod Recordings
 pub mod Fronts
 pub mod Packing

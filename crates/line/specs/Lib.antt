@@ -5,5 +5,6 @@ pub mod Lines
 pub mod Layers
 pub mod Piles
 pub mod Words
+pub mod Decoding
 pub mod Bytes
 pub mod Recorded

@@ -2,6 +2,7 @@
 //!
 //! A line is anything that hands out events one by one and then says how it ended. A recorder's words are a line, and a
 //! gate or a turn over any line is again one.
+mod bits;
 pub mod ending;
 pub mod event;
 pub mod gate;

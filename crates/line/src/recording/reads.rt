@@ -1,7 +1,11 @@
 //! How a recording is read.
 ghost use mathlib.Core.Path.{_≡_};
+ghost use Prim.Native.Nat.{_+_};
+ghost use lib.ListN.{length};
+ghost use Rattle.line.specs.Decoding.{Begins, from};
 ghost use Rattle.line.specs.Recorded.{Records};
-ghost use Rattle.line.specs.Words.{end-says, fault, from, low, pulse-says, quiet-says, says};
+ghost use Rattle.line.specs.Words.{Says, fault, kind};
+use crate::bits::low_bits;
 use crate::ending::LineFault;
 use crate::event::Event;
 use crate::event::Height;
@@ -31,57 +35,39 @@ impl Flaw {
     }
 }
 
-// The low 30 bits of a word.
-fn low(word: u32) -> u32
-    ensures { λ r. ⌜ r ≡ low word ⌝ }
-{
-    word & 0x3fff_ffff
-}
-
-// What a word of kind 0 says: a quiet, its ticks in the low 30 bits.
-fn read_quiet(word: u32) -> Word
-    ensures { λ r. ⌜ r ≡ quiet-says word ⌝ }
-{
-    match Ticks::new(low(word)) {
-        Ok(ticks) => Word::Heard(Event::Quiet(ticks)),
-        Err(_) => Word::Bad(Flaw::EmptyQuiet),
-    }
-}
-
-// What a word of kind 1 says: a pulse, its polarity in bit 29, its height in the low 13 bits, the bits between spare.
+// What a word of kind 1 says: a pulse, unless a bit between its polarity and its height is set.
 fn read_pulse(word: u32) -> Word
-    ensures { λ r. ⌜ r ≡ pulse-says word ⌝ }
+    requires { ⌜ kind word ≡ 1 ⌝ }
+    ensures { λ r. ⌜ Says 0 word r ⌝ }
 {
-    if (word >> 13) & 0xffff != 0 {
+    if low_bits(word >> 13, 16) != 0 {
         return Word::Bad(Flaw::UsedSpareBits);
     }
-    let polarity = if (word >> 29) & 1 == 1 {
-        Polarity::Positive
+    let height = Height::in_word(word);
+    if low_bits(word >> 29, 1) == 1 {
+        Word::Heard(Event::Pulse(Polarity::Positive, height))
     } else {
-        Polarity::Negative
-    };
-    Word::Heard(Event::Pulse(polarity, Height::in_word(word)))
-}
-
-// What a word of kind 2 says as the word of number `place`: the end, if it counts the words before it.
-fn read_end(place: usize, word: u32) -> Word
-    ensures { λ r. ⌜ r ≡ end-says place word ⌝ }
-{
-    if low(word) as usize == place {
-        Word::End
-    } else {
-        Word::Bad(Flaw::WrongCount)
+        Word::Heard(Event::Pulse(Polarity::Negative, height))
     }
 }
 
 // What `word` says as the word of number `place`.
 fn read_word(place: usize, word: u32) -> Word
-    ensures { λ r. ⌜ r ≡ says place word ⌝ }
+    ensures { λ r. ⌜ Says place word r ⌝ }
 {
     match word >> 30 {
-        0 => read_quiet(word),
+        0 => match Ticks::new(low_bits(word, 30)) {
+            Ok(ticks) => Word::Heard(Event::Quiet(ticks)),
+            Err(_) => Word::Bad(Flaw::EmptyQuiet),
+        },
         1 => read_pulse(word),
-        2 => read_end(place, word),
+        2 => {
+            if low_bits(word, 30) as usize == place {
+                Word::End
+            } else {
+                Word::Bad(Flaw::WrongCount)
+            }
+        }
         _ => Word::Bad(Flaw::UnknownKind),
     }
 }
@@ -95,6 +81,17 @@ impl<'a> Recording<'a> {
     {
         Recording { words, at: 0 }
     }
+
+    // What the next word says, or that there is none.
+    fn next_word(&self) -> Word
+        ensures { λ r. ⌜ Begins (now (self .entry) .at) (length (now (self .entry) .words .now)) r (from (now (self .entry) .at) (now (self .entry) .words .now)) (from (now (self .entry) .at + 1) (now (self .entry) .words .now)) ⌝ }
+    {
+        if self.at < self.words.len() {
+            read_word(self.at, self.words[self.at])
+        } else {
+            Word::Bad(Flaw::NoEnd)
+        }
+    }
 }
 
 pub impl<'a> Line for Recording<'a> as RecordingLine {
@@ -103,10 +100,7 @@ pub impl<'a> Line for Recording<'a> as RecordingLine {
     ghost ending = { λ s. from (s .at) (s .words .now) .ending };
 
     fn take(&mut self) -> Result<Option<Event>, LineFault> {
-        if self.at >= self.words.len() {
-            return Err(Flaw::NoEnd.at(self.at));
-        }
-        match read_word(self.at, self.words[self.at]) {
+        match self.next_word() {
             Word::Heard(event) => {
                 self.at += 1;
                 Ok(Some(event))

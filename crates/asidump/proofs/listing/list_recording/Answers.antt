@@ -4,7 +4,7 @@ use mathlib.Core.Path.{ap, _∙_}
 use lib.ListN.{take}
 use Rattle.std.proofs.shelf.Lists.{length-replicate}
 use Rattle.line.specs.Bytes.{words-of}
-use Rattle.line.specs.Words.{from}
+use Rattle.line.specs.Decoding.{from}
 use Rattle.line.proofs.Packing.{written-words}
 use Rattle.asidump.specs.Listing.{listing}
 use Rattle.asidump.proofs.Lines.{from-start, whole}
