@@ -14,15 +14,17 @@ struct Drops<'a> {
 
 impl Read for Drops<'_> as DropsRead {
     fn read(&mut self, buf: &mut [u8]) -> io::Result<usize> {
-        let mut count = 0;
-        for place in 0..buf.len().min(2) {
-            if self.at < self.bytes.len() {
-                buf[place] = self.bytes[self.at];
-                self.at += 1;
-                count = place + 1;
-            }
+        if self.at >= self.bytes.len() || buf.is_empty() {
+            return Ok(0);
         }
-        Ok(count)
+        buf[0] = self.bytes[self.at];
+        self.at += 1;
+        if self.at >= self.bytes.len() || buf.len() < 2 {
+            return Ok(1);
+        }
+        buf[1] = self.bytes[self.at];
+        self.at += 1;
+        Ok(2)
     }
 }
 

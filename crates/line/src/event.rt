@@ -2,6 +2,7 @@
 ghost use Prim.Native.Nat.{_≤_};
 ghost use Rattle.line.specs.Limits.{highest, longest};
 
+mod in_word;
 pub mod limits;
 
 /// The side to which a pulse goes.

@@ -1,8 +1,6 @@
 //! How a height and a number of ticks are made and read.
 ghost use mathlib.Core.Path.{_≡_};
-ghost use Prim.Native.Nat.{_%_};
 ghost use Rattle.line.specs.Events.{HeightMade, TicksMade};
-use crate::bits::low_bits;
 use crate::event::Height;
 use crate::event::Ticks;
 use crate::refusal::Refusal;
@@ -22,15 +20,6 @@ impl Height {
             return Err(Refusal::HeightOutOfRange);
         }
         Ok(Height { mv })
-    }
-
-    // The height in the low 13 bits of a word.
-    pub(crate) fn in_word(word: u32) -> Height
-        ensures { λ r. ⌜ r .mv ≡ word % 8192 ⌝ }
-    {
-        Height {
-            mv: low_bits(word, 13) as u16,
-        }
     }
 
     /// The height in millivolts.

@@ -4,7 +4,7 @@ ghost use Prim.Native.Nat.{_+_};
 ghost use lib.ListN.{length};
 ghost use Rattle.line.specs.Decoding.{Begins, from};
 ghost use Rattle.line.specs.Recorded.{Records};
-ghost use Rattle.line.specs.Words.{Says, fault, kind};
+ghost use Rattle.line.specs.Words.{Says, fault};
 use crate::bits::low_bits;
 use crate::ending::LineFault;
 use crate::event::Event;
@@ -35,22 +35,6 @@ impl Flaw {
     }
 }
 
-// What a word of kind 1 says: a pulse, unless a bit between its polarity and its height is set.
-fn read_pulse(word: u32) -> Word
-    requires { ⌜ kind word ≡ 1 ⌝ }
-    ensures { λ r. ⌜ Says 0 word r ⌝ }
-{
-    if low_bits(word >> 13, 16) != 0 {
-        return Word::Bad(Flaw::UsedSpareBits);
-    }
-    let height = Height::in_word(word);
-    if low_bits(word >> 29, 1) == 1 {
-        Word::Heard(Event::Pulse(Polarity::Positive, height))
-    } else {
-        Word::Heard(Event::Pulse(Polarity::Negative, height))
-    }
-}
-
 // What `word` says as the word of number `place`.
 fn read_word(place: usize, word: u32) -> Word
     ensures { λ r. ⌜ Says place word r ⌝ }
@@ -60,7 +44,13 @@ fn read_word(place: usize, word: u32) -> Word
             Ok(ticks) => Word::Heard(Event::Quiet(ticks)),
             Err(_) => Word::Bad(Flaw::EmptyQuiet),
         },
-        1 => read_pulse(word),
+        1 => {
+            if low_bits(word >> 13, 16) == 0 {
+                Word::Heard(Event::Pulse(Polarity::in_word(word), Height::in_word(word)))
+            } else {
+                Word::Bad(Flaw::UsedSpareBits)
+            }
+        }
         2 => {
             if low_bits(word, 30) as usize == place {
                 Word::End
