@@ -1,7 +1,7 @@
 -- What the decoding makes of a word is what the word says, and it says nothing else: test by test, then event by event.
 use Prim.Native.Nat.{ℕ, _<_}
 use mathlib.Core.Logic.{inl, inr}
-use mathlib.Core.Path.{_≡_, refl, ap, subst, sym, _∙_}
+use mathlib.Core.Path.{_≡_, refl, ap, _∙_}
 use native.Mathlib.Omega.{arith}
 use Rattle.std.proofs.shelf.Ways.{eqb-tells, tells}
 use Rattle.line.specs.declared.event.Event.{Event}
@@ -12,13 +12,13 @@ use Rattle.line.specs.declared.recording.Flaw.{Flaw}
 use Rattle.line.specs.declared.recording.Flaw.the-variants.{UnknownKind, EmptyQuiet, UsedSpareBits, NoEnd, WrongCount}
 use Rattle.line.specs.declared.recording.Word.{Word}
 use Rattle.line.specs.declared.recording.Word.the-variants.{Heard, End, Bad}
-use Rattle.line.specs.Decoding.{decoded, end-decoded, polarity, pulse-decoded, quiet-decoded, side}
+use Rattle.line.specs.Decoding.{decoded, end-decoded, polarity, pulse-decoded, quiet-decoded}
 use Rattle.line.specs.Events.{height, ticks}
-use Rattle.line.specs.Words.{Says, Spoils, kind, low, sign, spare, word-of}
+use Rattle.line.specs.Words.{Says, Spoils, amount, kind, side, sign, spare, word-of}
 use Rattle.line.proofs.Same.{same-height, same-ticks}
 
 quiet-says : (n w : ℕ) → kind w ≡ 0 → Says n w (quiet-decoded w)
-quiet-says n w k = elim (eqb-tells (low w) 0) [ inl p ↦ rw (p .0) (k, p .1) | inr p ↦ rw (p .0) (omega (arith, p .1)) ]
+quiet-says n w k = elim (eqb-tells (amount w) 0) [ inl p ↦ rw (p .0) (k, p .1) | inr p ↦ rw (p .0) (omega (arith, p .1)) ]
 
 sign-side : (w : ℕ) → sign (polarity (side w)) ≡ side w
 sign-side w = elim (eqb-tells (side w) 1) [ inl p ↦ rw (p .0) (omega arith) | inr p ↦ rw (p .0) (omega arith) ]
@@ -27,7 +27,7 @@ pulse-says : (n w : ℕ) → kind w ≡ 1 → Says n w (pulse-decoded w)
 pulse-says n w k = elim (eqb-tells (spare w) 0) [ inl p ↦ rw (p .0) (omega (arith, sign-side w)) | inr p ↦ rw (p .0) (k, omega arith) ]
 
 end-says : (n w : ℕ) → kind w ≡ 2 → Says n w (end-decoded n w)
-end-says n w k = elim (eqb-tells (low w) n) [ inl p ↦ rw (p .0) (k, p .1) | inr p ↦ rw (p .0) (k, p .1) ]
+end-says n w k = elim (eqb-tells (amount w) n) [ inl p ↦ rw (p .0) (k, p .1) | inr p ↦ rw (p .0) (k, p .1) ]
 
 pub decoded-says : (n w : ℕ) → Says n w (decoded n w)
 decoded-says n w =
@@ -40,7 +40,7 @@ decoded-says n w =
     ]
 
 -- a word of kind 0 or 1 without a flaw
-decoded-quiet : (n w : ℕ) → kind w ≡ 0 → 0 < low w → decoded n w ≡ Heard (Quiet (ticks w))
+decoded-quiet : (n w : ℕ) → kind w ≡ 0 → 0 < amount w → decoded n w ≡ Heard (Quiet (ticks w))
 decoded-quiet n w k some = grind (arith, tells)
 
 decoded-pulse : (n w : ℕ) → kind w ≡ 1 → spare w ≡ 0 → decoded n w ≡ Heard (Pulse (polarity (side w)) (height w))

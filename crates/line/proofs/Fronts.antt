@@ -1,5 +1,5 @@
 -- A list written over the front of another, one element more.
-use Prim.Native.Nat.{ℕ, _+_, _<_, suc, min}
+use Prim.Native.Nat.{ℕ, _+_, _<_}
 use mathlib.Core.List.{List, _∷_, [], _++_}
 use mathlib.Core.Path.{_≡_, sym, ap, _∙_}
 use native.Mathlib.Omega.{arith}

@@ -1,5 +1,5 @@
 -- The words of a list of bytes, by their numbers.
-use Prim.Native.Nat.{ℕ, _+_, _/_, _<_, min}
+use Prim.Native.Nat.{ℕ, _/_, _<_, min}
 use mathlib.Core.List.{List}
 use mathlib.Core.Logic.{inl, inr}
 use mathlib.Core.Path.{_≡_, sym, ap, _∙_}
@@ -29,9 +29,9 @@ take-min xs m =
 -- what was written, taken again, is all words as far as there was room
 pub written-words : (bs ws ws′ : List ℕ) (n : ℕ) → Packed bs ws n ws′ → take n ws′ ≡ take (length ws) (words-of bs)
 written-words bs ws ws′ n p =
+    let c = p .count in
     let W = words-of bs in
     let many = length-words-of bs in
-    let c = p .count in
     let same : n ≡ min (length W) (length ws) = omega arith in
     let long : length (take n W) ≡ n = length-take n W ∙ omega arith in
     ap (take n) (p .after) ∙ take-at (take n W) (drop n ws) n long ∙ ap (λ k. take k W) same ∙ take-min W (length ws)

@@ -1,5 +1,5 @@
 -- The decoding is what the words record, and nothing else is: by induction on the words, and on the events.
-use Prim.Native.Nat.{ℕ, _+_, suc}
+use Prim.Native.Nat.{ℕ, _+_}
 use mathlib.Core.List.{List, [], _∷_, _++_, map}
 use mathlib.Core.Path.{_≡_, refl, sym, ap, subst, _∙_}
 use native.Mathlib.Omega.{arith}

@@ -2,7 +2,8 @@ pub mod Limits
 pub mod Refusals
 pub mod Events
 pub mod Lines
-pub mod Layers
+pub mod Gates
+pub mod Turns
 pub mod Piles
 pub mod Words
 pub mod Decoding

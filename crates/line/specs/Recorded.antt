@@ -1,7 +1,7 @@
 -- What a recorder writes, as a relation between words and events, with no reading order in it.
 --
--- Ends n ws end          where the events are over after n words, and ws are the words from there on, the line ends so
--- Recorded n ws es end   from the word of number n on, ws are the words of es, and then end so
+-- Ends n ws end          ws, the words from number n on, hold no event more, and end the line by end
+-- Recorded n ws es end   ws, the words from number n on, are the words of es and then some rest, which ends so
 -- Records ws c           c is what ws record, and nothing else is
 use Prim.Native.Nat.{ℕ, _+_}
 use mathlib.Core.List.{List, [], _∷_, _++_, map}
@@ -13,12 +13,13 @@ use Rattle.line.specs.declared.event.Event.{Event}
 use Rattle.line.specs.declared.recording.Flaw.{Flaw}
 use Rattle.line.specs.declared.recording.Flaw.the-variants.{NoEnd}
 use Rattle.line.specs.Decoding.{Content}
-use Rattle.line.specs.Words.{Spoils, fault, kind, low, word-of}
+use Rattle.line.specs.declared.recording.Word.the-variants.{End, Bad}
+use Rattle.line.specs.Words.{Says, fault, word-of}
 
 abbrev pub Ends : ℕ → List ℕ → Ending → Type 0
 Ends n [] end = end ≡ Broken (fault NoEnd n)
-Ends n (w ∷ ws) Dry = (kind w ≡ 2) × (low w ≡ n)
-Ends n (w ∷ ws) (Broken b) = (f : Flaw) × Spoils f n w × (b ≡ fault f n)
+Ends n (w ∷ ws) Dry = Says n w End
+Ends n (w ∷ ws) (Broken b) = (f : Flaw) × Says n w (Bad f) × (b ≡ fault f n)
 
 abbrev pub Recorded : ℕ → List ℕ → List Event → Ending → Type 0
 Recorded n ws es end = (rest : List ℕ) × (ws ≡ map word-of es ++ rest) × Ends (n + length es) rest end

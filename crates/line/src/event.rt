@@ -4,6 +4,7 @@ ghost use Rattle.line.specs.Limits.{highest, longest};
 
 mod in_word;
 pub mod limits;
+pub mod turned;
 
 /// The side to which a pulse goes.
 #[derive(Clone, Copy, PartialEq, Eq, Debug)]

@@ -1,6 +1,6 @@
 //! A gate: the line below it without its low pulses.
 ghost use mathlib.Core.Path.{_≡_};
-ghost use Rattle.line.specs.Layers.{gated, passes};
+ghost use Rattle.line.specs.Gates.{gated, passes};
 use crate::ending::LineFault;
 use crate::event::Event;
 use crate::line::Line;

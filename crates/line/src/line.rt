@@ -2,7 +2,7 @@
 ghost use mathlib.Core.List.{List};
 ghost use Rattle.line.specs.declared.ending.Ending.{Ending};
 ghost use Rattle.line.specs.declared.event.Event.{Event};
-ghost use Rattle.line.specs.Lines.{Took};
+ghost use Rattle.line.specs.Lines.{Takes};
 use crate::ending::LineFault;
 use crate::event::Event;
 
@@ -16,5 +16,5 @@ pub trait Line {
 
     /// Answers the first waiting event and removes just that one; where none waits, the ending, the same each time.
     fn take(&mut self) -> Result<Option<Event>, LineFault>
-        ensures { λ r. ⌜ Took (waits (now (self .entry))) (ending (now (self .entry))) r (waits (now (self .exit))) (ending (now (self .exit))) ⌝ };
+        ensures { λ r. ⌜ Takes waits ending (now (self .entry)) r (now (self .exit)) ⌝ };
 }

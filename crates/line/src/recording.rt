@@ -1,9 +1,11 @@
 //! A recording: a line read from the caller's words.
 ghost use Prim.Native.Nat.{_≤_};
 ghost use lib.ListN.{length};
+pub use self::reads::RecordingLine;
 use crate::event::Event;
 
-pub mod reads;
+mod format;
+mod reads;
 
 /// A recorder's words, lent, and the number of the next one to read. No word is copied.
 #[derive(Drop)]
@@ -15,7 +17,7 @@ pub struct Recording<'a> {
 
 /// What is wrong with a word, or with the words as a whole.
 #[derive(Clone, Copy)]
-pub enum Flaw {
+pub(crate) enum Flaw {
     UnknownKind,
     EmptyQuiet,
     UsedSpareBits,
@@ -25,7 +27,7 @@ pub enum Flaw {
 
 /// What one word of a recording says.
 #[derive(Clone, Copy)]
-pub enum Word {
+pub(crate) enum Word {
     Heard(Event),
     End,
     Bad(Flaw),

@@ -14,7 +14,7 @@ use crate::gate::GateLine;
 use crate::line::Line;
 use crate::pile;
 use crate::recording::Recording;
-use crate::recording::reads::RecordingLine;
+use crate::recording::RecordingLine;
 use crate::refusal::Refusal;
 use crate::refusal::RefusalDebug;
 use crate::threshold::Threshold;
@@ -75,10 +75,13 @@ fn limits() -> Result<(), Fail> {
             Err(refusal) => check_eq(refusal.number(), 2)?,
         }
     }
-    match Threshold::new(8192) {
-        Ok(_) => Err(Fail::new("a threshold above 8,191")),
-        Err(refusal) => check_eq(refusal.number(), 1),
+    for mv in [8192, 65535] {
+        match Threshold::new(mv) {
+            Ok(_) => return Err(Fail::new("a threshold above 8,191")),
+            Err(refusal) => check_eq(refusal.number(), 1)?,
+        }
     }
+    Ok(())
 }
 
 #[test]
@@ -130,12 +133,29 @@ fn flaws_at_every_place() -> Result<(), Fail> {
 fn ends_and_what_follows_them() -> Result<(), Fail> {
     let event = quiet(24)?;
     reads(&[], &[], broken(7, 0))?;
-    reads(&[24, 24], &[event, event], broken(7, 2))?;
+    let words = [24; 4];
+    let events = [event; 4];
+    for count in 0..5 {
+        reads(&words[0..count], &events[0..count], broken(7, count as u64))?;
+    }
     reads(&[0x8000_0000], &[], Ending::Dry)?;
     reads(&[0x8000_0001, 24], &[], broken(8, 0))?;
     reads(&[24, 0x8000_0000], &[event], broken(8, 1))?;
-    let rubbish = [24, 0x8000_0001, 0xffff_ffff, 0, 24, 0x8000_0005];
-    reads(&rubbish, &[event], Ending::Dry)
+    for rubbish in [
+        0xffff_ffff,
+        0,
+        24,
+        0x4000_2000,
+        0x8000_0000,
+        0x8000_0002,
+        0x8000_0003,
+    ] {
+        let at_once = [0x8000_0000, rubbish, rubbish];
+        reads(&at_once, &events[0..0], Ending::Dry)?;
+        let after_one = [24, 0x8000_0001, rubbish];
+        reads(&after_one, &events[0..1], Ending::Dry)?;
+    }
+    Ok(())
 }
 
 #[test]
@@ -166,6 +186,24 @@ fn gates_turns_and_piles() -> Result<(), Fail> {
     check_eq(pile::take_piled(&mut high), Ok(Some(quiet(24)?)))?;
     let rest = [quiet(48)?, pulse(Polarity::Positive, 101)?];
     hands_out(&mut high, &rest, broken(4, 5))
+}
+
+#[test]
+fn gates_at_their_limits() -> Result<(), Fail> {
+    let words = [0x4000_0000, 0x6000_1ffe, 0x4000_1fff, 1, 0x8000_0004];
+    let all = [
+        pulse(Polarity::Negative, 0)?,
+        pulse(Polarity::Positive, 8190)?,
+        pulse(Polarity::Negative, 8191)?,
+        quiet(1)?,
+    ];
+    let mut open = Gate::new(Recording::new(&words), Threshold::new(0)?);
+    hands_out(&mut open, &all, Ending::Dry)?;
+    let mut shut = Gate::new(Recording::new(&words), Threshold::new(8191)?);
+    hands_out(&mut shut, &all[2..4], Ending::Dry)?;
+    let end = [0x8000_0000];
+    let mut empty = Gate::new(Turn::new(Recording::new(&end)), Threshold::new(8191)?);
+    hands_out(&mut empty, &[], Ending::Dry)
 }
 
 #[test]

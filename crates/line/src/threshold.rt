@@ -1,6 +1,6 @@
 //! The threshold of a gate, which is made before the gate is.
 ghost use mathlib.Core.Path.{_≡_};
-ghost use Rattle.line.specs.Layers.{admits, ThresholdMade};
+ghost use Rattle.line.specs.Gates.{admits, ThresholdMade};
 use crate::event::Height;
 use crate::event::HeightDebug;
 use crate::event::HeightPartialEq;

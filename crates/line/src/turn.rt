@@ -1,10 +1,9 @@
 //! A turn: the line below it with every polarity changed.
 ghost use mathlib.Core.Path.{_≡_};
 ghost use mathlib.Core.List.{map};
-ghost use Rattle.line.specs.Layers.{opposite, turned};
+ghost use Rattle.line.specs.Turns.{turned};
 use crate::ending::LineFault;
 use crate::event::Event;
-use crate::event::Polarity;
 use crate::line::Line;
 
 /// The line below with every polarity changed, as when the two wires are exchanged.
@@ -19,30 +18,6 @@ impl<L: Line> Turn<L> {
         ensures { λ r. ⌜ r .below ≡ below ⌝ }
     {
         Turn { below }
-    }
-}
-
-impl Polarity {
-    /// The other polarity.
-    pub fn opposite(self) -> Polarity
-        ensures { λ r. ⌜ r ≡ opposite self ⌝ }
-    {
-        match self {
-            Polarity::Negative => Polarity::Positive,
-            Polarity::Positive => Polarity::Negative,
-        }
-    }
-}
-
-impl Event {
-    /// The event with its polarity changed; a quiet has none.
-    pub fn turned(self) -> Event
-        ensures { λ r. ⌜ r ≡ turned self ⌝ }
-    {
-        match self {
-            Event::Pulse(polarity, height) => Event::Pulse(polarity.opposite(), height),
-            Event::Quiet(ticks) => Event::Quiet(ticks),
-        }
     }
 }
 

@@ -1,7 +1,7 @@
 -- What the gate means stays while it drops pulses, and each dropped one leaves fewer below.
 use mathlib.Core.Path.{_≡_}
 use lib.ListN.{length}
-use Rattle.line.specs.Layers.{gated}
+use Rattle.line.specs.Gates.{gated}
 use Rattle.line.proofs.gate.GateLine.take.Given as given
 
 abbrev pub Inv-loop-event : given.InvT-loop-event
