@@ -1,4 +1,4 @@
-//! A gate: the line below it without its low pulses.
+//! A gate, which keeps weak pulses back.
 ghost use mathlib.Core.Path.{_≡_};
 ghost use Rattle.line.specs.Gates.{gated, passes};
 use crate::ending::LineFault;
@@ -6,7 +6,7 @@ use crate::event::Event;
 use crate::line::Line;
 use crate::threshold::Threshold;
 
-/// The line below without the pulses lower than the threshold.
+/// A line on top of the line `below`: what comes through are its quiets, and its pulses from the threshold on.
 #[derive(Drop)]
 pub struct Gate<L> {
     below: L,

@@ -1,7 +1,7 @@
 //! Events on the cable, and lines of them.
 //!
-//! A line is anything that hands out events one by one and then says how it ended. A recorder's words are a line, and a
-//! gate or a turn over any line is again one.
+//! A line is anything that hands over events one by one and then tells how it ended. A recorder's words are a line, and a
+//! gate or a turn on top of any line makes a line again.
 mod bits;
 pub mod ending;
 pub mod event;

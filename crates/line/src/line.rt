@@ -6,7 +6,7 @@ ghost use Rattle.line.specs.Lines.{Takes};
 use crate::ending::LineFault;
 use crate::event::Event;
 
-/// A line of events: the list of those that wait in it, and an ending.
+/// A source of events with an ending.
 pub trait Line {
     /// The events that wait, the next one first.
     ghost waits: { Self → List Event };
@@ -14,7 +14,7 @@ pub trait Line {
     /// How the line ends once none waits.
     ghost ending: { Self → Ending };
 
-    /// Answers the first waiting event and removes just that one; where none waits, the ending, the same each time.
+    /// Hands over the next event; where none waits, reports the ending, and goes on doing so.
     fn take(&mut self) -> Result<Option<Event>, LineFault>
         ensures { λ r. ⌜ Takes waits ending (now (self .entry)) r (now (self .exit)) ⌝ };
 }

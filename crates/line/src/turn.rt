@@ -1,4 +1,4 @@
-//! A turn: the line below it with every polarity changed.
+//! A turn, which exchanges the polarities.
 ghost use mathlib.Core.Path.{_≡_};
 ghost use mathlib.Core.List.{map};
 ghost use Rattle.line.specs.Turns.{turned};
@@ -6,7 +6,7 @@ use crate::ending::LineFault;
 use crate::event::Event;
 use crate::line::Line;
 
-/// The line below with every polarity changed, as when the two wires are exchanged.
+/// A line on top of the line `below`, with negative for positive, as if the two wires were crossed.
 #[derive(Drop)]
 pub struct Turn<L> {
     below: L,

@@ -13,8 +13,8 @@ fn word_at(bytes: &[u8], k: usize) -> u32
     u32::from_le_bytes([bytes[at], bytes[at + 1], bytes[at + 2], bytes[at + 3]])
 }
 
-/// Writes the little-endian words of `bytes` to the front of `words`, as many as there are or fit, and answers how many.
-/// A remainder under four bytes is dropped; the other words keep their contents.
+/// Writes the little-endian words of `bytes` over the front of `words`, as many as there is room for, and tells how many.
+/// Up to three bytes at the end that make no word are left out, and words that are not written over stay.
 pub fn from_bytes(bytes: &[u8], words: &mut [u32]) -> usize
     ensures { λ r. ⌜ Packed (now (bytes .entry)) (now (words .entry)) r (now (words .exit)) ⌝ }
 {
