@@ -1,6 +1,5 @@
 //! The listing of a whole line.
 ghost use lib.ListN.{replicate, take};
-ghost use mathlib.Core.List.{_++_};
 ghost use mathlib.Core.Path.{_≡_};
 ghost use Rattle.asidump.specs.Listing.{Listed, dump, listing, recorded, room};
 ghost use Rattle.line.specs.Bytes.{Packed, words-of};
