@@ -6,7 +6,7 @@
 -- HeightIn f n   what making something answers whose height, by f, is to be n millivolts
 -- HeightMade n   what making a height of n millivolts answers
 -- TicksMade n    what making a quiet's ticks of n answers
-use Prim.Native.Nat.{ℕ, _%_, _^_, _<_, _≤_, max}
+use Prim.Native.Nat.{ℕ, _<_, _≤_, max}
 use mathlib.Core.Path.{_≡_}
 use mathlib.Core.Logic.{_⊎_}
 use native.Mathlib.Omega.{arith}
@@ -17,12 +17,13 @@ use Rattle.line.specs.declared.event.Ticks.{Ticks}
 use Rattle.line.specs.declared.refusal.Refusal.{Refusal}
 use Rattle.line.specs.Limits.{highest, longest}
 use Rattle.line.specs.Refusals.{number}
+use Rattle.line.specs.Words.{amount, level}
 
 abbrev pub height : ℕ → Height
-height n = record { mv = n % 2 ^ 13; low = omega arith }
+height n = record { mv = level n; low = omega arith }
 
 abbrev pub ticks : ℕ → Ticks
-ticks n = record { count = max 1 (n % 2 ^ 30); some = omega arith; few = omega arith }
+ticks n = record { count = max 1 (amount n); some = omega arith; few = omega arith }
 
 abbrev pub HeightIn : {T : Type 0} → (T → ℕ) → ℕ → Result T Refusal → Type 0
 HeightIn f n (Ok t) = (n ≤ highest) × (f t ≡ n)
