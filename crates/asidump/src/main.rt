@@ -1,4 +1,5 @@
 //! Lists a recording: its words come from standard input, and each event is printed on a line of its own.
+#![tactic(auto)]
 
 mod input;
 mod listing;

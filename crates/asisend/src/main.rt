@@ -1,5 +1,7 @@
 //! Makes a recording: telegrams come from standard input as lines of text, and the words of their events go to standard
 //! output.
+#![tactic(auto)]
+
 ghost use Rattle.std.specs.Prelude.{◌<◌, length};
 ghost use Rattle.asisend.specs.Sent.{most};
 

@@ -2,6 +2,8 @@
 //!
 //! A line is anything that hands over events one by one and then tells how it ended. A recorder's words are a line, and a
 //! gate or a turn on top of any line makes a line again.
+#![tactic(auto)]
+
 mod bits;
 pub mod ending;
 pub mod event;

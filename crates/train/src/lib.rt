@@ -1,4 +1,6 @@
 //! Trains of pulses: the slots that their pulses are in, the checks, and the reading of a whole train as one kind of telegram.
+#![tactic(auto)]
+
 mod checks;
 pub mod fault;
 mod laws;

@@ -8,4 +8,4 @@ loop-taken-preserved g c =
     let took = rw c.in-Some.is at c.in-Ok.ensures in
     let waits = g.L.Line.waits in
     let inv = c.loop-taken.invariant in
-    (event_more _ (string_bytes c.loop-taken.text) (string_bytes c.writeln.new.self) (waits c.loop-taken.line) (waits c.take.new.self) c.in-Some.event inv.0 took.0 c.in-ok-writeln.ensures.bytes, cc (took.1, inv.1))
+    (event_more _ (string_bytes c.loop-taken.text) (string_bytes c.writeln.new.self) (waits c.loop-taken.line) (waits c.take.new.self) c.in-Some.event inv.0 took.0 c.in_ok-writeln-in-Some.ensures.bytes, cc (took.1, inv.1))

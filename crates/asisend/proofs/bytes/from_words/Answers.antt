@@ -7,8 +7,8 @@ pub loop-word-preserved : goal.loop-word-preserved
 loop-word-preserved c =
     let ws = c.args.words.now in
     let i = c.loop-word.word-index in
-    let added = c.in-ok-extend-from-slice.ensures.items in
-    bytes_more ws i (get_or ws i 0) (vec_items c.loop-word.bytes) (vec_items c.extend-from-slice.new.self) c.loop-word-test.true refl c.loop-word.invariant (added ∙ ap (λ l. vec_items c.loop-word.bytes ++ l) c.word-bytes.ensures)
+    let added = c.in_ok-extend_from_slice.ensures.items in
+    bytes_more ws i (get_or ws i 0) (vec_items c.loop-word.bytes) (vec_items c.extend_from_slice.new.self) c.loop-word-test.true refl c.loop-word.invariant (added ∙ ap (λ l. vec_items c.loop-word.bytes ++ l) c.word_bytes.ensures)
 
 pub returns : goal.returns
-returns c = written c.args.words.now (vec_items c.loop-word.bytes) c.loop-word.word-index c.loop-word-test.false c.loop-word.invariant (λ k. (c.type-inv.words k).fits)
+returns c = written c.args.words.now (vec_items c.loop-word.bytes) c.loop-word.word-index c.loop-word-test.false c.loop-word.invariant (λ k. (c.type_inv.words k).fits)

@@ -4,10 +4,10 @@ use Rattle.std.proofs.lemmas.Result.{err_from_is_err_and}
 use Rattle.asisend.proofs.Plainly.{no_number, no_space}
 use Rattle.asisend.proofs.parsing.first_field.Goals as goal
 
-pub returns-in-err-read : goal.returns-in-err-read
-returns-in-err-read c =
-    let p = err_from_is_err_and c.from-residual.result c.from-residual.ensures.1 in
-    let not = c.in-err-read.ensures in
+pub returns-in_err-read-in-Some : goal.returns-in_err-read-in-Some
+returns-in_err-read-in-Some c =
+    let p = err_from_is_err_and c.from_residual.result c.from_residual.ensures.1 in
+    let not = c.in_err-read-in-Some.ensures in
     rw (p.1, p.2) (no_number c.args.bytes.now _ _ c.in-Some.ensures not.0, not.1)
 
 pub returns-in-None : goal.returns-in-None

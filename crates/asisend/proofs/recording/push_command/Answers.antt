@@ -2,4 +2,4 @@
 use Rattle.asisend.proofs.recording.push_command.Goals as goal
 
 pub returns-in-Request : goal.returns-in-Request
-returns-in-Request c = rw c.in-Request.is c.push-telegram.ensures
+returns-in-Request c = rw c.in-Request.is c.push_telegram.ensures

@@ -8,14 +8,14 @@ use Rattle.asisend.proofs.script.read_commands.Goals as goal
 pub loop-rest-smaller : goal.loop-rest-smaller
 loop-rest-smaller c =
     let some : 0 < length c.loop-rest.rest.now = search rules in
-    less_left _ _ _ c.first-line-parts.ensures some
+    less_left _ _ _ c.first_line-parts.ensures some
 
 pub loop-rest-preserved : goal.loop-rest-preserved
 loop-rest-preserved c =
     let some : 0 < length c.loop-rest.rest.now = search rules in
     let t = c.args.text.now in
-    let more = command_more t (vec_items c.loop-rest.commands) c.loop-rest.rest.now c.first-line-parts.result.front.now c.first-line-parts.result.back.now c.in-Ok.command c.loop-rest.invariant some c.first-line-parts.ensures c.in-Ok.ensures in
-    subst (λ l. Begins t l c.first-line-parts.result.back.now) (sym c.in-ok-push.ensures.items) more
+    let more = command_more t (vec_items c.loop-rest.commands) c.loop-rest.rest.now c.first_line-parts.result.front.now c.first_line-parts.result.back.now c.in-Ok.command c.loop-rest.invariant some c.first_line-parts.ensures c.in-Ok.ensures in
+    subst (λ l. Begins t l c.first_line-parts.result.back.now) (sym c.in_ok-push-in-Ok.ensures.items) more
 
 pub returns : goal.returns
 returns c =

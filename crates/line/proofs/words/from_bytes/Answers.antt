@@ -9,6 +9,6 @@ pub loop-k-preserved : goal.loop-k-preserved
 loop-k-preserved c =
     let bs = c.args.bytes.now in
     let k = c.loop-k.k in
-    let x = c.word-at.result in
+    let x = c.word_at.result in
     let lt : k < length bs / 4 = omega arith in
-    ap (λ l. set l k x) c.loop-k.invariant ∙ front_more (words_of bs) c.args.words.now k x (omega (arith, length-words_of bs)) (omega arith) (c.word-at.ensures ∙ sym (get_or-words_of bs k x lt))
+    ap (λ l. set l k x) c.loop-k.invariant ∙ front_more (words_of bs) c.args.words.now k x (omega (arith, length-words_of bs)) (omega arith) (c.word_at.ensures ∙ sym (get_or-words_of bs k x lt))

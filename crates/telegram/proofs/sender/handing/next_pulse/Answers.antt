@@ -7,9 +7,9 @@ use Rattle.telegram.proofs.sender.handing.next_pulse.Goals as goal
 pub returns-in-Some : goal.returns-in-Some
 returns-in-Some c = (c.in-Some.ensures.low, omega arith, omega arith, next_one (row_bits c.args.row.now) c.args.slot _ (sym c.in-Some.ensures.value))
 
-pub returns-in-Some-pulse-in : goal.returns-in-Some-pulse-in
-returns-in-Some-pulse-in c =
-    (c.in-Some-pulse-in.ensures.low, omega arith, omega arith, next_two (row_bits c.args.row.now) c.args.slot _ (sym c.in-None.ensures.value) (sym c.in-Some-pulse-in.ensures.value))
+pub returns-in-Some-pulse_in : goal.returns-in-Some-pulse_in
+returns-in-Some-pulse_in c =
+    (c.in-Some-pulse_in.ensures.low, omega arith, omega arith, next_two (row_bits c.args.row.now) c.args.slot _ (sym c.in-None.ensures.value) (sym c.in-Some-pulse_in.ensures.value))
 
-pub returns-in-None-pulse-in : goal.returns-in-None-pulse-in
-returns-in-None-pulse-in c = next_none (row_bits c.args.row.now) c.args.slot (sym c.in-None.ensures.value) (sym c.in-None-pulse-in.ensures.value)
+pub returns-in-None-pulse_in : goal.returns-in-None-pulse_in
+returns-in-None-pulse_in c = next_none (row_bits c.args.row.now) c.args.slot (sym c.in-None.ensures.value) (sym c.in-None-pulse_in.ensures.value)

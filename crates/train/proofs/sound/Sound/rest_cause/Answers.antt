@@ -7,4 +7,4 @@ pub returns : goal.returns
 returns g c =
     let laws = g.met.K.Kind in
     let least = laws.least in
-    rested_at g.K.Kind.size _ c.args.self.now _ (omega arith) laws.most c.good-slot.ensures c.check-rest.ensures
+    rested_at g.K.Kind.size _ c.args.self.now _ (omega arith) laws.most c.good_slot.ensures c.check_rest.ensures
