@@ -161,7 +161,7 @@ fn the_first_bad_line_is_told(rt: HostRuntime) -> Result<(), Fail> {
 #[test]
 fn no_telegrams_are_an_end_word(rt: HostRuntime) -> Result<(), Fail> {
     let bytes = send(rt.alloc(), b"")?;
-    assert_eq!(rt; bytes.as_slice(), &[0, 0, 0, 0x80]);
+    assert_eq!(rt; bytes.as_slice(), [0, 0, 0, 0x80].as_slice());
     Ok(())
 }
 
@@ -171,8 +171,11 @@ fn an_answer_in_words(rt: HostRuntime) -> Result<(), Fail> {
     let words = send(rt.alloc(), b"answer 0 4000")?;
     let bytes = words.as_slice();
     assert!(rt; bytes.len() == 100);
-    assert_eq!(rt; &bytes[0..8], &[0xa0, 0x0f, 0, 0x40, 24, 0, 0, 0]);
-    assert_eq!(rt; &bytes[92..100], &[0xa0, 0x0f, 0, 0, 24, 0, 0, 0x80]);
+    assert_eq!(rt; &bytes[0..8], [0xa0, 0x0f, 0, 0x40, 24, 0, 0, 0].as_slice());
+    assert_eq!(rt;
+        &bytes[92..100],
+        [0xa0, 0x0f, 0, 0, 24, 0, 0, 0x80].as_slice()
+    );
     Ok(())
 }
 

@@ -6,7 +6,7 @@ use Rattle.train.specs.declared.fault.Cause.{Cause}
 use Rattle.train.specs.declared.sound.Sound.{Sound}
 use Rattle.train.specs.Checks.{among, rest_cause}
 use Rattle.train.specs.Sounds.{Rested, Tells}
-use Rattle.train.specs.Trains.{Train, count, last_pulse, positive, row}
+use Rattle.train.specs.Trains.{Train, last_pulse, positive, row}
 use Rattle.train.specs.Verdicts.{blamed, clean, kind_good, last_slot, or_else, rest_fault, settled, verdict}
 use Rattle.train.proofs.Cleaning.{at_rest, one_good, rest_none, rest_row, whole}
 
