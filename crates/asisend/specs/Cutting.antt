@@ -5,10 +5,10 @@
 -- FirstLine t l r   l is the first line of the text t without the byte 10 that ends it, and r what stands after that byte;
 --                   the last line may lack the byte
 use Rattle.std.specs.Prelude.{◌≡◌, ℕ, ◌⊎◌, List, [], ◌∷◌, ◌++◌, ◌≢◌}
-use Rattle.std.specs.List.{AllByRecursion as All}
+use Rattle.std.specs.List.{AllByRecursion}
 
 abbrev pub Lacks : ℕ → List ℕ → Type 0
-Lacks m bs = All (λ b. b ≢ m) bs
+Lacks m bs = AllByRecursion (λ b. b ≢ m) bs
 
 pub record Cuts (m : ℕ) (bs f b : List ℕ) : Type 0 where
   pub whole : bs ≡ f ++ (m ∷ b)
