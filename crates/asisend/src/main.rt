@@ -7,6 +7,7 @@ ghost use Rattle.asisend.specs.Sent.{most};
 
 use input::reading::fill;
 use std::io::Write;
+use std::process::ExitCode;
 
 mod bytes;
 mod command;
@@ -35,12 +36,15 @@ fn run(rt: &HostRuntime) -> anyhow::Result<()> {
     Ok(())
 }
 
-fn main(rt: HostRuntime) -> anyhow::Result<()> {
-    let done = run(&rt);
-    if let Err(error) = &done {
-        eprintln!(rt; "{error}")?;
+// An error is told by its text alone, and ends the process with status 1.
+fn main(rt: HostRuntime) -> ExitCode {
+    match run(&rt) {
+        Ok(()) => ExitCode::SUCCESS,
+        Err(error) => {
+            let _ = eprintln!(rt; "{error}");
+            ExitCode::FAILURE
+        }
     }
-    done
 }
 
 #[cfg(test)]

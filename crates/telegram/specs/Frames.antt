@@ -1,4 +1,9 @@
 -- Requests and answers keep the laws of a kind: a row with the first two properties is the frame of its fields.
+-- These proofs stand among the definitions because an implementation of a kind names the proof of each law.
+--
+-- answer_back, answer_forth   the third and the fourth law, of answers
+-- request_even, request_back, request_forth   the second, the third and the fourth law, of requests
+-- same_answer, same_request   records with the same fields are the same
 use Rattle.std.specs.Prelude.{◌≡◌, ℕ, ◌%◌, ◌<◌, Bool, true, false, List, [], ◌∷◌, ◌++◌, length, slice_index_or, refl}
 use Rattle.std.proofs.Common.{sym, ap, subst, ◌∙◌, mod-eq_of_lt, arith}
 use Rattle.std.proofs.Math.Bridge.{le_prop}
@@ -9,7 +14,7 @@ use Rattle.telegram.specs.declared.request.Request.{Request}
 use Rattle.telegram.specs.Bits.{Even, Proper, odd, ones}
 use Rattle.telegram.specs.Digits.{digits, framed, listed, value}
 use Rattle.telegram.specs.Records.{answer_record, answer_row, request_record, request_row}
-use Rattle.telegram.specs.Numbers.{digits_value, listed_is, ones-push, value-digits}
+use Rattle.telegram.specs.Numbers.{digits-value, listed_is, ones-push, value-digits}
 
 -- with their parity, bits have an even sum
 parity_even : (ds : List Bool) → ones (ds ++ (odd ds ∷ [])) % 2 ≡ 0
@@ -46,7 +51,7 @@ answer_back r = same_answer _ r (value-digits 4 r.nibble ∙ mod-eq_of_lt r.low)
 answer_spelt : (f : ℕ → Bool) → Proper 7 (listed f 7) → answer_row (answer_record (listed f 7)) ≡ listed f 7
 answer_spelt f p =
     let ds = f 1 ∷ f 2 ∷ f 3 ∷ f 4 ∷ [] in
-    ap framed (digits_value ds) ∙ frame_is ds (f 0) (f 5) (f 6) p.ends.start p.ends.end p.even
+    ap framed (digits-value ds) ∙ frame_is ds (f 0) (f 5) (f 6) p.ends.start p.ends.end p.even
 
 pub answer_forth : (w : List Bool) → Proper 7 w → answer_row (answer_record w) ≡ w
 answer_forth w p =
@@ -81,9 +86,9 @@ request_spelt f p =
     let cs = f 1 ∷ [] in
     let ads = f 2 ∷ f 3 ∷ f 4 ∷ f 5 ∷ f 6 ∷ [] in
     let ins = f 7 ∷ f 8 ∷ f 9 ∷ f 10 ∷ f 11 ∷ [] in
-    ap (λ x. framed (x ++ (digits 5 (value ads) ++ digits 5 (value ins)))) (digits_value cs)
-    ∙ ap (λ x. framed (cs ++ (x ++ digits 5 (value ins)))) (digits_value ads)
-    ∙ ap (λ x. framed (cs ++ (ads ++ x))) (digits_value ins)
+    ap (λ x. framed (x ++ (digits 5 (value ads) ++ digits 5 (value ins)))) (digits-value cs)
+    ∙ ap (λ x. framed (cs ++ (x ++ digits 5 (value ins)))) (digits-value ads)
+    ∙ ap (λ x. framed (cs ++ (ads ++ x))) (digits-value ins)
     ∙ frame_is (cs ++ (ads ++ ins)) (f 0) (f 12) (f 13) p.ends.start p.ends.end p.even
 
 pub request_forth : (w : List Bool) → Proper 14 w → request_row (request_record w) ≡ w

@@ -1,4 +1,10 @@
--- Bits and the numbers that they write: each number below 2 to the k has just one row of k bits.
+-- Proofs about bits and the numbers that they write: each number below 2 to the k has just one row of k bits.
+-- They stand among the definitions because the proofs of a kind's laws, in Frames, rest on them.
+--
+-- value-digits             the k low bits of n write n modulo 2 to the k
+-- digits-value             the bits of the number that a row writes are that row
+-- ones-push, odd-push, value-push   the sum, the parity and the number of a row with one bit more at its end
+-- listed_more, listed_is   a list made by number, one longer; a list is what it holds by number
 use Rattle.std.specs.Prelude.{◌≡◌, ℕ, zero, suc, ◌+◌, ◌*◌, ◌/◌, ◌%◌, ◌^◌, ◌<◌, Bool, true, false, cond, not, List, [], ◌∷◌, ◌++◌, length, ◌==◌, ◌≢◌, slice_index_or, refl}
 use Rattle.std.specs.Bool.{beq}
 use Rattle.std.proofs.Common.{sym, ap, ◌∙◌, mod-eq_of_lt, arith}
@@ -9,9 +15,9 @@ use Rattle.std.proofs.lemmas.Bool.Decides.{nat_tests}
 use Rattle.telegram.specs.Bits.{odd, ones}
 use Rattle.telegram.specs.Digits.{digit, digits, double, listed, value, value_lt}
 
-length_digits : (k n : ℕ) → length (digits k n) ≡ k
-length_digits zero n = refl
-length_digits (suc k) n = ap suc (length_digits k n)
+length-digits : (k n : ℕ) → length (digits k n) ≡ k
+length-digits zero n = refl
+length-digits (suc k) n = ap suc (length-digits k n)
 
 bit_times : (x p : ℕ) → x < 2 → cond (x == 1) p 0 ≡ x * p
 bit_times zero p h = omega arith
@@ -22,7 +28,7 @@ pub value-digits : (k n : ℕ) → value (digits k n) ≡ n % 2 ^ k
 value-digits zero n = omega arith
 value-digits (suc k) n =
     let more : n % 2 ^ suc k ≡ (n / 2 ^ k % 2) * 2 ^ k + n % 2 ^ k = ap (λ i. n % 2 ^ i) (omega arith) ∙ mod-pow-add n 1 k in
-    ap (λ i. cond (digit n k) (2 ^ i) 0 + value (digits k n)) (length_digits k n)
+    ap (λ i. cond (digit n k) (2 ^ i) 0 + value (digits k n)) (length-digits k n)
     ∙ ap (λ i. cond (digit n k) (2 ^ k) 0 + i) (value-digits k n)
     ∙ ap (λ i. i + n % 2 ^ k) (bit_times (n / 2 ^ k % 2) (2 ^ k) (omega arith))
     ∙ sym more
@@ -42,8 +48,8 @@ value_inj (true ∷ w) (true ∷ v) l e =
 value_inj (false ∷ w) (true ∷ v) l e = absurd (larger w v (omega arith) (omega arith))
 value_inj (true ∷ w) (false ∷ v) l e = absurd (larger v w (omega arith) (omega arith))
 
-pub digits_value : (w : List Bool) → digits (length w) (value w) ≡ w
-digits_value w = value_inj _ w (length_digits (length w) (value w)) (value-digits (length w) (value w) ∙ mod-eq_of_lt (value_lt w))
+pub digits-value : (w : List Bool) → digits (length w) (value w) ≡ w
+digits-value w = value_inj _ w (length-digits (length w) (value w)) (value-digits (length w) (value w) ∙ mod-eq_of_lt (value_lt w))
 
 -- one bit more at the end
 
