@@ -1,23 +1,25 @@
 -- The listing of a line.
 --
--- event_lines es    the text of each event, each on a line that byte 10 ends
+-- event_line e      the text of an event on a line that byte 10 ends
+-- event_lines es    the lines of all events
 -- ending_line end   the text of an ending, on such a line
 -- listing es end    the lines of all events, then the line of the ending
 -- room              how many words of its input the program reads at most: those of 65,536 bytes
 -- recorded ws       the listing of the recording in ws
 -- dump bs           the listing of the recording in the bytes bs
--- Listed            what listing the events of a line did to the line and to a text: the line before, by what waits in a line
---                   and how a line ends; the text before; the answer; the line and the text after
-use Rattle.std.specs.Prelude.{◌≡◌, ℕ, List, [], ◌∷◌, ◌++◌, take}
+use Rattle.std.specs.Prelude.{ℕ, List, [], ◌∷◌, ◌++◌, take}
 use Rattle.std.specs.List.{flat_map}
-use Rattle.line.specs.declared.ending.Ending.{Ending}
+use Rattle.line.specs.Endings.{Ending}
 use Rattle.line.specs.declared.event.Event.{Event}
 use Rattle.line.specs.Bytes.{words_of}
 use Rattle.line.specs.Decoding.{content}
 use Rattle.asidump.specs.Text.{ending_text, event_text}
 
+abbrev pub event_line : Event → List ℕ
+event_line e = event_text e ++ (10 ∷ [])
+
 abbrev pub event_lines : List Event → List ℕ
-event_lines es = flat_map (λ e. event_text e ++ (10 ∷ [])) es
+event_lines es = flat_map event_line es
 
 abbrev pub ending_line : Ending → List ℕ
 ending_line end = ending_text end ++ (10 ∷ [])
@@ -33,9 +35,3 @@ recorded ws = listing (content 0 ws).events (content 0 ws).ending
 
 abbrev pub dump : List ℕ → List ℕ
 dump bs = recorded (take room (words_of bs))
-
-pub record Listed {L : Type 0} (waits : L → List Event) (ending : L → Ending) (l : L) (bs : List ℕ) (answer : Ending) (l' : L) (bs' : List ℕ) : Type 0 where
-  pub value : answer ≡ ending l
-  pub bytes : bs' ≡ bs ++ event_lines (waits l)
-  pub left : waits l' ≡ []
-  pub same : ending l' ≡ ending l

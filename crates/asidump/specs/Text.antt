@@ -4,9 +4,8 @@
 -- event_text e    the text of an event
 -- ending_text e   the text of an ending
 -- text_of e       the text of either
-use Rattle.std.specs.Prelude.{ℕ, List, ◌++◌, codes, decimal}
-use Rattle.line.specs.declared.ending.Ending.{Ending}
-use Rattle.line.specs.declared.ending.Ending.TheVariants.{Dry, Broken}
+use Rattle.std.specs.Prelude.{ℕ, List, ◌++◌, codes, decimal, Ok, Err}
+use Rattle.line.specs.Endings.{Ending}
 use Rattle.line.specs.declared.event.Event.{Event}
 use Rattle.line.specs.declared.event.Event.TheVariants.{Pulse, Quiet}
 use Rattle.line.specs.declared.event.Polarity.{Polarity}
@@ -23,8 +22,8 @@ event_text (Pulse p h) = codes "pulse " ++ (sign_text p ++ (codes " " ++ decimal
 event_text (Quiet t) = codes "quiet " ++ decimal t.count
 
 abbrev pub ending_text : Ending → List ℕ
-ending_text Dry = codes "end"
-ending_text (Broken f) = codes "broken " ++ (decimal f.cause ++ (codes " " ++ decimal f.place))
+ending_text (Ok u) = codes "end"
+ending_text (Err f) = codes "broken " ++ (decimal f.cause ++ (codes " " ++ decimal f.place))
 
 abbrev pub text_of : Item → List ℕ
 text_of (item.Event e) = event_text e

@@ -1,58 +1,8 @@
 //! Examples of what the program reads and lists.
-use crate::{input, listing};
+use crate::listing;
 use std::alloc::Global;
-use std::io;
-use std::io::Read;
 use std::process::Abort;
 use std::test::Fail;
-
-// An input that gives at most two bytes at a time.
-#[derive(Drop)]
-struct Drops<'a> {
-    bytes: &'a [u8],
-    at: usize,
-}
-
-impl Read for Drops<'_> {
-    fn read(&mut self, buf: &mut [u8]) -> io::Result<usize> {
-        if self.at >= self.bytes.len() || buf.is_empty() {
-            return Ok(0);
-        }
-        buf[0] = self.bytes[self.at];
-        self.at += 1;
-        if self.at >= self.bytes.len() || buf.len() < 2 {
-            return Ok(1);
-        }
-        buf[1] = self.bytes[self.at];
-        self.at += 1;
-        Ok(2)
-    }
-}
-
-#[test]
-fn short_reads_add_up(rt: HostRuntime) -> Result<(), Fail> {
-    let mut drops = Drops {
-        bytes: &[1, 2, 3, 4, 5],
-        at: 0,
-    };
-    let mut room = [0; 8];
-    assert_eq!(rt; input::fill(&mut drops, &mut room)?, 5);
-    assert_eq!(rt; room, [1, 2, 3, 4, 5, 0, 0, 0]);
-    Ok(())
-}
-
-#[test]
-fn nothing_is_read_past_the_room(rt: HostRuntime) -> Result<(), Fail> {
-    let mut drops = Drops {
-        bytes: &[1, 2, 3, 4, 5],
-        at: 0,
-    };
-    let mut room = [0; 3];
-    assert_eq!(rt; input::fill(&mut drops, &mut room)?, 3);
-    assert_eq!(rt; room, [1, 2, 3]);
-    assert_eq!(rt; drops.at, 3);
-    Ok(())
-}
 
 // The listing of `words` is just `expected`.
 fn lists(rt: &impl Abort, heap: Global, words: &[u32], expected: &str) -> Result<(), Fail> {

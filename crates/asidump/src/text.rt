@@ -7,6 +7,7 @@ use line::event::{Event, Polarity};
 use std::fmt;
 
 /// What one line of a listing shows.
+// A type for it: a crate may print only types of its own, and these two are of the library.
 #[derive(Clone, Copy)]
 pub enum Item {
     Event(Event),
@@ -32,8 +33,8 @@ impl fmt::Display for Item {
                 }
             },
             Item::Ending(ending) => match ending {
-                Ending::Dry => write!(f, "end"),
-                Ending::Broken(fault) => {
+                Ok(()) => write!(f, "end"),
+                Err(fault) => {
                     let cause = fault.cause;
                     let place = fault.place;
                     write!(f, "broken {cause} {place}")

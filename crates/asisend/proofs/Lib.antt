@@ -1,6 +1,6 @@
 pub mod Cuts
 pub mod Plainly
 pub mod Shapes
-pub mod Texts
 pub mod Events
 pub mod LowFirst
+pub mod Texts

@@ -1,14 +1,10 @@
 -- Four bytes to a word: the k-th word stands in the bytes from 4k on.
-use Rattle.std.proofs.Common.{◌≡◌, ℕ, zero, suc, ◌+◌, ◌*◌, ◌/◌, ◌%◌, ◌^◌, ◌<◌, ◌≤◌, List, [], ◌∷◌, ◌++◌, length, get_or, take, sym, refl, ap, ◌∙◌, arith}
+use Rattle.std.proofs.Common.{◌≡◌, ℕ, zero, suc, ◌+◌, ◌*◌, ◌/◌, ◌%◌, ◌^◌, ◌<◌, ◌≤◌, List, [], ◌∷◌, length, get_or, take, sym, refl, ap, ◌∙◌, arith, Fits, w32}
 use native.Mathlib.Nat.{div-div-eq-div-mul}
-use Rattle.std.proofs.lemmas.List.{ext_get_or, flat_map_more, take_all, take_more}
+use Rattle.std.proofs.lemmas.List.{ext_get_or, take_all}
 use Rattle.line.specs.Bytes.{word_at, words_of}
 use Rattle.line.proofs.Packing.{get_or-words_of, length-words_of}
 use Rattle.asisend.specs.Bytes.{Written, bytes_of, word_bytes}
-
-pub bytes_more : (ws : List ℕ) (i w : ℕ) (bs bs' : List ℕ) → i < length ws → w ≡ get_or ws i 0 → bs ≡ bytes_of (take i ws) → bs' ≡ bs ++ word_bytes w → bs' ≡ bytes_of (take (i + 1) ws)
-bytes_more ws i w bs bs' within is before added =
-    added ∙ ap (λ l. l ++ word_bytes w) before ∙ flat_map_more word_bytes [] (take i ws) w ∙ ap (λ x. bytes_of (take i ws ++ (x ∷ []))) is ∙ ap bytes_of (sym (take_more ws i 0 within))
 
 length-bytes : (ws : List ℕ) → length (bytes_of ws) ≡ 4 * length ws
 length-bytes [] = omega arith
@@ -45,10 +41,10 @@ put_together w low =
     let h : d % 256 ≡ d = omega arith in
     glue w a b d (w % 256) (a % 256) (b % 256) (d % 256) (split w) f g h
 
-pub written : (ws bs : List ℕ) (i : ℕ) → length ws ≤ i → bs ≡ bytes_of (take i ws) → ((k : ℕ) → get_or ws k 0 < 2 ^ 32) → Written ws bs
+pub written : (ws bs : List ℕ) (i : ℕ) → length ws ≤ i → bs ≡ bytes_of (take i ws) → ((k : ℕ) → Fits w32 (get_or ws k 0)) → Written ws bs
 written ws bs i past is low =
     let all : bs ≡ bytes_of ws = is ∙ ap bytes_of (take_all i ws past) in
     let long : length (words_of bs) ≡ length ws = length-words_of bs ∙ omega (arith, ap length all, length-bytes ws) in
     let at : (k : ℕ) → k < length (words_of bs) → get_or (words_of bs) k 0 ≡ get_or ws k 0 =
-    λ k h. get_or-words_of bs k 0 (omega (arith, length-words_of bs)) ∙ ap (λ l. word_at l k) all ∙ word_in ws k (omega (arith, long)) ∙ put_together (get_or ws k 0) (low k) in
+    λ k h. get_or-words_of bs k 0 (omega (arith, length-words_of bs)) ∙ ap (λ l. word_at l k) all ∙ word_in ws k (omega (arith, long)) ∙ put_together (get_or ws k 0) (low k).fits in
     record { value = all; back = ext_get_or 0 (words_of bs) ws long at }

@@ -4,15 +4,16 @@ use Rattle.std.proofs.lemmas.List.{append_cancel_left}
 use Rattle.telegram.specs.declared.answer.Answer.{Answer}
 use Rattle.telegram.specs.declared.refusal.Refusal.{Refusal}
 use Rattle.telegram.specs.declared.request.Request.{Request}
+use Rattle.telegram.specs.Closings.{Unclosing, closing_ticks}
 use Rattle.telegram.specs.Records.{RequestIn}
 use Rattle.asisend.specs.declared.command.Command.{Command}
 use Rattle.asisend.specs.declared.command.Telegram.{Telegram}
 use Rattle.asisend.specs.declared.command.Telegram.TheVariants as telegram
-use Rattle.asisend.specs.Commands.{AnswerRead, Fielded, LineRead, Made, OutOfRange, RequestRead, Shape, Unfielded, answer_fields, request_fields, telegram_text}
+use Rattle.asisend.specs.Commands.{AnswerRead, Fielded, LineRead, Made, RequestRead, Shape, Unfielded, answer_fields, request_fields, telegram_text}
 use Rattle.asisend.specs.Numbers.{Plain, capped, written}
 use Rattle.asisend.proofs.Plainly.{field_is, field_text, plain_decimal, plain_text}
 
-still_out : (n : ℕ) → OutOfRange (capped n) → OutOfRange n
+still_out : (n : ℕ) → Unclosing (capped n) → Unclosing n
 still_out n (inl h) = inl (omega arith)
 still_out n (inr h) = inr (omega arith)
 
@@ -55,9 +56,9 @@ module _ (bs : List ℕ) where
               first ∙ ap (λ l. decimal r.control ++ (32 ∷ l)) (second ∙ ap (λ l. decimal r.address ++ (32 ∷ l)) third)
 
           pub request_read : (q : ℕ) → Plain z → q ≡ capped (written z) → (k : Result Command Refusal) → Made (telegram.Request r) q k → RequestRead bs k
-          request_read q p is (Ok k) m = (r, m.0, request_whole ∙ ap (request_fields r) (plain_text z k.closing p (m.1 ∙ is) (omega (arith, k.short))))
+          request_read q p is (Ok k) m = (r, m.0, request_whole ∙ ap (request_fields r) (plain_text z (closing_ticks k.closing) p (m.1 ∙ is) (omega (arith, k.closing.short))))
           request_read q p is (Err e) m =
-              inr (m.1, (record { telegram = r; quiet = z; plain = p; whole = request_whole }, still_out (written z) (subst OutOfRange is m.0)))
+              inr (m.1, (record { telegram = r; quiet = z; plain = p; whole = request_whole }, still_out (written z) (subst Unclosing is m.0)))
 
 -- answers
 module _ (bs : List ℕ) where
@@ -79,9 +80,9 @@ module _ (bs : List ℕ) where
       answer_whole = field_text bs n z f (omega (arith, a.low)) ∙ ap (λ k. decimal k ++ (32 ∷ z)) (sym is_n)
 
       pub answer_read : (q : ℕ) → Plain z → q ≡ capped (written z) → (k : Result Command Refusal) → Made (telegram.Answer a) q k → AnswerRead bs k
-      answer_read q p is (Ok k) m = (a, m.0, answer_whole ∙ ap (answer_fields a) (plain_text z k.closing p (m.1 ∙ is) (omega (arith, k.short))))
+      answer_read q p is (Ok k) m = (a, m.0, answer_whole ∙ ap (answer_fields a) (plain_text z (closing_ticks k.closing) p (m.1 ∙ is) (omega (arith, k.closing.short))))
       answer_read q p is (Err e) m =
-          inr (m.1, (record { telegram = a; quiet = z; plain = p; whole = answer_whole }, still_out (written z) (subst OutOfRange is m.0)))
+          inr (m.1, (record { telegram = a; quiet = z; plain = p; whole = answer_whole }, still_out (written z) (subst Unclosing is m.0)))
 
 -- whole lines
 module _ (line fs : List ℕ) where
@@ -90,7 +91,7 @@ module _ (line fs : List ℕ) where
   request_only e never (telegram.Answer a) q p w = let z : ◌≡◌ {A = ℕ} 114 97 = cc in omega arith
 
   pub request_line : line ≡ codes "request " ++ fs → (k : Result Command Refusal) → RequestRead fs k → LineRead line k
-  request_line e (Ok k) m = e ∙ ap (λ l. codes "request " ++ l) m.2 ∙ ap (λ t. telegram_text t (decimal k.closing)) (sym m.1)
+  request_line e (Ok k) m = e ∙ ap (λ l. codes "request " ++ l) m.2 ∙ ap (λ t. telegram_text t (decimal (closing_ticks k.closing))) (sym m.1)
   request_line e (Err d) (inl m) = inl (m.0, λ s. request_only e m.1 s.telegram s.quiet s.plain s.whole)
   request_line e (Err d) (inr m) =
       let s = m.1.0 in
@@ -101,7 +102,7 @@ module _ (line fs : List ℕ) where
   answer_only e never (telegram.Request r) q p w = let z : ◌≡◌ {A = ℕ} 97 114 = cc in omega arith
 
   pub answer_line : line ≡ codes "answer " ++ fs → (k : Result Command Refusal) → AnswerRead fs k → LineRead line k
-  answer_line e (Ok k) m = e ∙ ap (λ l. codes "answer " ++ l) m.2 ∙ ap (λ t. telegram_text t (decimal k.closing)) (sym m.1)
+  answer_line e (Ok k) m = e ∙ ap (λ l. codes "answer " ++ l) m.2 ∙ ap (λ t. telegram_text t (decimal (closing_ticks k.closing))) (sym m.1)
   answer_line e (Err d) (inl m) = inl (m.0, λ s. answer_only e m.1 s.telegram s.quiet s.plain s.whole)
   answer_line e (Err d) (inr m) =
       let s = m.1.0 in

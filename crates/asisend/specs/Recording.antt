@@ -7,17 +7,15 @@
 -- script_events cs    what is sent for all commands in order
 -- end_word n          the word that ends a recording of n words before it
 -- Recording es ws     ws are the words of es and then the end word, so that reading them gives just es
--- Pushed              what adding the words of a line did, where waits and ending tell what waits in a line and how it ends: the line l
---                     with the words ws before, the answer, the line l' with the words ws' after
--- EventsPushed        adding the words of es made ws' of ws
+-- EventsPushed ws es ws'   adding the words of es made ws' of ws
 use Rattle.std.specs.Prelude.{◌≡◌, ℕ, ◌+◌, ◌^◌, Bool, List, [], ◌∷◌, ◌++◌, map, length}
 use Rattle.std.specs.List.{flat_map}
-use Rattle.line.specs.declared.ending.Ending.{Ending}
-use Rattle.line.specs.declared.ending.Ending.TheVariants.{Dry}
+use Rattle.line.specs.Endings.{dry}
 use Rattle.line.specs.declared.event.Event.{Event}
 use Rattle.line.specs.Events.{height, ticks}
 use Rattle.line.specs.Recorded.{Recorded}
 use Rattle.line.specs.Words.{word_of}
+use Rattle.telegram.specs.Closings.{closing_ticks}
 use Rattle.telegram.specs.Coding.{slots}
 use Rattle.telegram.specs.Records.{answer_row, request_row}
 use Rattle.telegram.specs.Sending.{sent}
@@ -36,7 +34,7 @@ unfoldable pub row_events : List Bool → ℕ → List Event
 row_events w n = sent (height pulse_mv) (ticks n) (slots w)
 
 abbrev pub command_events : Command → List Event
-command_events c = row_events (telegram_row c.telegram) c.closing
+command_events c = row_events (telegram_row c.telegram) (closing_ticks c.closing)
 
 abbrev pub script_events : List Command → List Event
 script_events cs = flat_map command_events cs
@@ -46,13 +44,7 @@ end_word n = 2 ^ 31 + n
 
 pub record Recording (es : List Event) (ws : List ℕ) : Type 0 where
   pub words : ws ≡ map word_of es ++ (end_word (length es) ∷ [])
-  pub recorded : Recorded 0 ws es Dry
-
-pub record Pushed {L : Type 0} (waits : L → List Event) (ending : L → Ending) (l : L) (ws : List ℕ) (answer : Ending) (l' : L) (ws' : List ℕ) : Type 0 where
-  pub value : answer ≡ ending l
-  pub words : ws' ≡ ws ++ map word_of (waits l)
-  pub left : waits l' ≡ []
-  pub same : ending l' ≡ ending l
+  pub recorded : Recorded 0 ws es dry
 
 abbrev pub EventsPushed : List ℕ → List Event → List ℕ → Type 0
 EventsPushed ws es ws' = ws' ≡ ws ++ map word_of es

@@ -4,6 +4,8 @@
 -- Writes t cs        the text t writes the commands cs; the last line may lack its byte 10
 -- Begins t cs r      the same of what stands before the rest r of the text
 -- Bad t n e          the line of number n is the first of t that writes no command, and e says why
+-- CommandAdded cs l cs'   cs' are the commands cs and then the one that the line l writes
+-- LineFailed cs l e  why the line l, which stands after those of cs, is not read
 -- ScriptFailed t e   why the text t is not read
 -- RecordFailed es e  why es are not recorded
 -- failure_text e     what is told of a failure
@@ -37,6 +39,15 @@ pub record Bad (t : List ℕ) (n : ℕ) (e : Refusal) : Type 0 where
   pub first : FirstLine rest line after
   pub place : n ≡ length good + 1
   pub why : Misread telegram_text line e
+
+abbrev pub CommandAdded : List Command → List ℕ → List Command → Type 0
+CommandAdded cs l cs' = (c : Command) × (l ≡ command_text c) × (cs' ≡ cs ++ (c ∷ []))
+
+abbrev pub LineFailed : List Command → List ℕ → Failure → Type 0
+LineFailed cs l Memory = Unit {0}
+LineFailed cs l TooLong = ⊥
+LineFailed cs l TooManyWords = ⊥
+LineFailed cs l (BadLine n e) = (n ≡ length cs + 1) × Misread telegram_text l e
 
 abbrev pub ScriptFailed : List ℕ → Failure → Type 0
 ScriptFailed t Memory = Unit {0}

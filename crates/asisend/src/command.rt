@@ -1,8 +1,6 @@
 //! What a line of text asks for: a telegram and the quiet after it.
-ghost use Rattle.std.specs.Prelude.{◌≤◌};
-ghost use Rattle.telegram.specs.Sending.{longest_closing, shortest_closing};
-
 use telegram::answer::Answer;
+use telegram::closing::Closing;
 use telegram::request::Request;
 
 pub mod making;
@@ -14,11 +12,9 @@ pub enum Telegram {
     Answer(Answer),
 }
 
-/// A telegram and its closing quiet in ticks: 72 to 4,000.
+/// A telegram and its closing quiet.
 #[derive(Clone, Copy)]
 pub struct Command {
     pub telegram: Telegram,
-    pub closing: u16,
-    ghost long: { shortest_closing ≤ closing },
-    ghost short: { closing ≤ longest_closing },
+    pub closing: Closing,
 }

@@ -13,13 +13,9 @@ pub struct Parts<'a> {
 pub fn cut(bytes: &[u8], mark: u8) -> Option<Parts<'_>>
     ensures { MatchOption result (Lacks mark bytes.now) (λ p. Cuts mark bytes.now p.front.now p.back.now) }
 {
-    for (i, byte) in bytes.iter().enumerate() {
-        if *byte == mark {
-            return Some(Parts {
-                front: &bytes[0..i],
-                back: &bytes[i + 1..],
-            });
-        }
-    }
-    None
+    let i = bytes.iter().position(|byte| *byte == mark)?;
+    Some(Parts {
+        front: &bytes[0..i],
+        back: &bytes[i + 1..],
+    })
 }

@@ -2,9 +2,6 @@
 //! output.
 #![tactic(auto)]
 
-ghost use Rattle.std.specs.Prelude.{◌<◌, length};
-ghost use Rattle.asisend.specs.Sent.{most};
-
 use input::reading::fill;
 use std::io::Write;
 use std::process::ExitCode;
@@ -19,17 +16,12 @@ mod recording;
 mod script;
 mod sending;
 
-// Room for the longest text and one byte more, by which a longer one shows.
+// Room for the longest text and one byte more, by which a longer one shows. A fixed buffer with a count, as the project has them.
 const ROOM: usize = sending::LONGEST + 1;
-
-// The room takes one byte more than a text may have, so a longer one shows.
-fn shows_longer(room: &[u8])
-    requires { most < length room.now }
-{}
 
 fn run(rt: &HostRuntime) -> anyhow::Result<()> {
     let mut text = [0u8; ROOM];
-    shows_longer(&text);
+    prove!(text.len() > sending::LONGEST);
     let count = fill(&mut rt.stdin(), &mut text)?;
     let bytes = sending::send(rt.alloc(), &text[0..count])?;
     rt.stdout().write_all(bytes.as_slice())?;

@@ -7,15 +7,14 @@ use telegram::refusal::Refusal;
 const GREATEST: u32 = 65535;
 
 // The number that the digits in `bytes` write, or 65,535 if it is greater; none if there is a byte that is no digit.
+#[tactic(auto, using(crate::proofs::Plainly::digit_more, crate::proofs::Plainly::not_digits))]
 fn value(bytes: &[u8]) -> Option<u16>
     ensures { Digited bytes.now result }
 {
     let mut number = 0u32;
     for byte in bytes {
-        if !byte.is_ascii_digit() {
-            return None;
-        }
-        number = (10 * number + (*byte - b'0') as u32).min(GREATEST);
+        let digit = char::from(*byte).to_digit(10)?;
+        number = (10 * number + digit).min(GREATEST);
     }
     Some(number as u16)
 }
@@ -28,8 +27,5 @@ pub fn read(bytes: &[u8]) -> Result<u16, Refusal>
     if bytes.is_empty() || (bytes[0] == b'0' && bytes.len() > 1) {
         return Err(Refusal::FieldOutOfRange);
     }
-    match value(bytes) {
-        Some(number) => Ok(number),
-        None => Err(Refusal::FieldOutOfRange),
-    }
+    value(bytes).ok_or(Refusal::FieldOutOfRange)
 }

@@ -21,16 +21,15 @@ struct Field<'a> {
 fn first_field(bytes: &[u8]) -> Result<Field<'_>, Refusal>
     ensures { MatchResult result (λ f. Fielded bytes.now f.value f.rest.now) (λ e. Unfielded bytes.now × (number e ≡ 9)) }
 {
-    match cut(bytes, b' ') {
-        Some(parts) => Ok(Field {
-            value: number::read(parts.front)?,
-            rest: parts.back,
-        }),
-        None => Err(Refusal::FieldOutOfRange),
-    }
+    let parts = cut(bytes, b' ').ok_or(Refusal::FieldOutOfRange)?;
+    Ok(Field {
+        value: number::read(parts.front)?,
+        rest: parts.back,
+    })
 }
 
 // The request whose fields `bytes` give, with its closing quiet.
+#[tactic(auto, using(crate::proofs::Shapes::no_control, crate::proofs::Shapes::no_address, crate::proofs::Shapes::no_closing, crate::proofs::Shapes::no_request, crate::proofs::Shapes::request_read))]
 fn request(bytes: &[u8]) -> Result<Command, Refusal>
     ensures { RequestRead bytes.now result }
 {
@@ -43,12 +42,13 @@ fn request(bytes: &[u8]) -> Result<Command, Refusal>
 }
 
 // The answer whose fields `bytes` give, with its closing quiet.
+#[tactic(auto, using(crate::proofs::Shapes::no_nibble, crate::proofs::Shapes::no_quiet, crate::proofs::Shapes::no_answer, crate::proofs::Shapes::answer_read))]
 fn answer(bytes: &[u8]) -> Result<Command, Refusal>
     ensures { AnswerRead bytes.now result }
 {
     let nibble = first_field(bytes)?;
     let closing = number::read(nibble.rest)?;
-    let answer = Answer::new(nibble.value)?;
+    let answer = Answer::try_from(nibble.value)?;
     Command::new(Telegram::Answer(answer), closing)
 }
 
@@ -61,14 +61,15 @@ fn after<'a>(line: &'a [u8], name: &[u8]) -> Option<&'a [u8]>
 
 /// The command that `line` writes. Refused by 9 if the line has neither form or a field is out of its range, else by 10 if
 /// the closing quiet is.
+#[tactic(auto, using(crate::proofs::Shapes::request_line, crate::proofs::Shapes::answer_line))]
 pub fn parse(line: &[u8]) -> Result<Command, Refusal>
     ensures { LineRead line.now result }
 {
-    match after(line, b"request ") {
-        Some(fields) => request(fields),
-        None => match after(line, b"answer ") {
-            Some(fields) => answer(fields),
-            None => Err(Refusal::FieldOutOfRange),
-        },
+    if let Some(fields) = after(line, b"request ") {
+        request(fields)
+    } else if let Some(fields) = after(line, b"answer ") {
+        answer(fields)
+    } else {
+        Err(Refusal::FieldOutOfRange)
     }
 }

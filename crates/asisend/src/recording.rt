@@ -1,17 +1,17 @@
 //! The words of a recording.
-ghost use Rattle.std.specs.Prelude.{◌≡◌, ◌^◌, ◌<◌, ◌≤◌, IfOk, MatchResult, OnOk};
-ghost use Rattle.asisend.specs.Recording.{EventsPushed, Pushed, Recording, command_events, end_word, row_events, script_events};
+ghost use Rattle.std.specs.Prelude.{◌≡◌, ◌^◌, ◌<◌, ◌≤◌, [], ◌∷◌, MatchResult, OnOk};
+ghost use Rattle.asisend.specs.Recording.{EventsPushed, Recording, command_events, end_word, row_events, script_events};
 ghost use Rattle.asisend.specs.Scripts.{RecordFailed};
 ghost use Rattle.line.specs.Words.{word_of};
-ghost use Rattle.telegram.specs.Sending.{longest_closing, shortest_closing};
+ghost use Rattle.telegram.specs.Closings.{closing_ticks};
 
 use crate::command::{Command, Telegram};
 use crate::failure::Failure;
-use line::ending::Ending;
-use line::event::{Event, Polarity};
-use line::line::Line;
+use line::event::{Event, Height, Polarity};
+use line::pour::{Sink, pour};
 use std::alloc::{AllocError, Global};
 use telegram::answer::coding::Answers;
+use telegram::closing::Closing;
 use telegram::kind::Kind;
 use telegram::request::coding::Requests;
 use telegram::sender::Sender;
@@ -22,7 +22,7 @@ const MV: u16 = 4000;
 // The first number of words that an end word cannot count.
 const TOO_MANY: usize = 0x4000_0000;
 
-// The word of an event.
+// The word of an event: no `From`, since neither type is this crate's.
 fn word_of(event: Event) -> u32
     ensures { result ≡ word_of event }
 {
@@ -38,39 +38,42 @@ fn word_of(event: Event) -> u32
     }
 }
 
-// Adds the word of each waiting event, and answers the ending.
-fn push_events<L: Line>(line: &mut L, words: &mut Vec<u32>) -> Result<Ending, AllocError>
-    ensures { IfOk result (λ end. Pushed L.Line.waits L.Line.ending line.old words.old.items end line.new words.new.items) }
-{
-    loop {
-        let taken = match line.take() {
-            Ok(taken) => taken,
-            Err(fault) => return Ok(Ending::Broken(fault)),
-        };
-        match taken {
-            Some(event) => words.push(word_of(event))?,
-            None => return Ok(Ending::Dry),
-        }
+// The words of a recording so far.
+#[derive(Drop)]
+struct Words {
+    list: Vec<u32>,
+}
+
+impl Sink for Words {
+    type Error = AllocError;
+
+    ghost kept = { λ words. words.list.items };
+
+    ghost kept_as = { λ e. word_of e ∷ [] };
+
+    fn put(&mut self, event: Event) -> Result<(), AllocError> {
+        self.list.push(word_of(event))?;
+        Ok(())
     }
 }
 
 // Adds the words of a telegram of any kind.
 fn push_telegram<K: Kind>(
     telegram: K::Record,
-    closing: u16,
-    words: &mut Vec<u32>,
+    closing: Closing,
+    words: &mut Words,
 ) -> Result<(), AllocError>
-    requires { (shortest_closing ≤ closing) × (closing ≤ longest_closing) }
-    ensures { OnOk result (EventsPushed words.old.items (row_events (K.Kind.row_of telegram) closing) words.new.items) }
+    ensures { OnOk result (EventsPushed words.old.list.items (row_events (K.Kind.row_of telegram) (closing_ticks closing)) words.new.list.items) }
 {
-    let mut sender = Sender::<K>::new(telegram, MV, closing as u32).unwrap();
-    push_events(&mut sender, words)?;
+    let height = Height::try_from(MV).unwrap();
+    let mut sender = Sender::<K>::with(telegram, height, closing);
+    pour(&mut sender, words)?.unwrap();
     Ok(())
 }
 
 // Adds the words of a command.
-fn push_command(command: &Command, words: &mut Vec<u32>) -> Result<(), AllocError>
-    ensures { OnOk result (EventsPushed words.old.items (command_events command.now) words.new.items) }
+fn push_command(command: &Command, words: &mut Words) -> Result<(), AllocError>
+    ensures { OnOk result (EventsPushed words.old.list.items (command_events command.now) words.new.list.items) }
 {
     match command.telegram {
         Telegram::Request(request) => push_telegram::<Requests>(request, command.closing, words),
@@ -90,10 +93,13 @@ fn end_word(count: usize) -> u32
 pub fn record(heap: Global, commands: &[Command]) -> Result<Vec<u32>, Failure>
     ensures { MatchResult result (λ v. Recording (script_events commands.now) v.items) (λ e. RecordFailed (script_events commands.now) e) }
 {
-    let mut words = Vec::new(heap);
+    let mut words = Words {
+        list: Vec::new(heap),
+    };
     for command in commands {
         push_command(command, &mut words)?;
     }
+    let mut words = words.list;
     if words.len() >= TOO_MANY {
         return Err(Failure::TooManyWords);
     }

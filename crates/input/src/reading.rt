@@ -8,6 +8,7 @@ use std::io::Read;
 pub fn fill<R: Read>(input: &mut R, bytes: &mut [u8]) -> io::Result<usize>
     ensures { IfOk result (λ n. n ≤ length bytes.new) }
 {
+    // No call of the library does it: `read_exact` fails where the input ends, `io::copy` promises no bound on its count.
     let mut count = 0;
     while count < bytes.len() {
         let more = input.read(&mut bytes[count..])?;

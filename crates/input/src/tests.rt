@@ -8,22 +8,12 @@ use std::test::Fail;
 #[derive(Drop)]
 struct Drops<'a> {
     bytes: &'a [u8],
-    at: usize,
 }
 
 impl Read for Drops<'_> {
     fn read(&mut self, buf: &mut [u8]) -> io::Result<usize> {
-        if self.at >= self.bytes.len() || buf.is_empty() {
-            return Ok(0);
-        }
-        buf[0] = self.bytes[self.at];
-        self.at += 1;
-        if self.at >= self.bytes.len() || buf.len() < 2 {
-            return Ok(1);
-        }
-        buf[1] = self.bytes[self.at];
-        self.at += 1;
-        Ok(2)
+        let most = buf.len().min(2);
+        self.bytes.read(&mut buf[..most])
     }
 }
 
@@ -31,7 +21,6 @@ impl Read for Drops<'_> {
 fn short_reads_add_up(rt: HostRuntime) -> Result<(), Fail> {
     let mut drops = Drops {
         bytes: &[1, 2, 3, 4, 5],
-        at: 0,
     };
     let mut room = [0; 8];
     assert_eq!(rt; fill(&mut drops, &mut room)?, 5);
@@ -43,11 +32,10 @@ fn short_reads_add_up(rt: HostRuntime) -> Result<(), Fail> {
 fn nothing_is_read_past_the_room(rt: HostRuntime) -> Result<(), Fail> {
     let mut drops = Drops {
         bytes: &[1, 2, 3, 4, 5],
-        at: 0,
     };
     let mut room = [0; 3];
     assert_eq!(rt; fill(&mut drops, &mut room)?, 3);
     assert_eq!(rt; room, [1, 2, 3]);
-    assert_eq!(rt; drops.at, 3);
+    assert_eq!(rt; drops.bytes, [4, 5].as_slice());
     Ok(())
 }

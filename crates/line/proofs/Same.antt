@@ -1,7 +1,7 @@
 -- Two heights of one number are one height, and so for ticks: their limits are facts with one proof.
 use Rattle.std.proofs.Common.{◌≡◌, ◌≤◌}
 use mathlib.Core.HLevel.{is_prop→PathP}
-use native.Mathlib.Bridge.{le_prop}
+use Rattle.std.proofs.Math.Bridge.{le_prop}
 use Rattle.line.specs.declared.event.Height.{Height}
 use Rattle.line.specs.declared.event.Ticks.{Ticks}
 use Rattle.line.specs.Limits.{highest, longest}

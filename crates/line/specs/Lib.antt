@@ -1,4 +1,6 @@
 pub mod Limits
+pub mod Endings
+pub mod Sides
 pub mod Refusals
 pub mod Events
 pub mod Lines
@@ -9,3 +11,4 @@ pub mod Words
 pub mod Decoding
 pub mod Bytes
 pub mod Recorded
+pub mod Pours

@@ -6,15 +6,14 @@
 --                            a fault    nothing waited, the line is broken by it, and stays so
 -- Takes waits ending l r l'   the same of a line l that became l', by what waits in each and how each ends
 use Rattle.std.specs.Prelude.{◌≡◌, List, [], ◌∷◌, Some, None, Ok, Err, Option, Result}
-use Rattle.line.specs.declared.ending.Ending.{Ending}
-use Rattle.line.specs.declared.ending.Ending.TheVariants.{Dry, Broken}
+use Rattle.line.specs.Endings.{Ending, dry}
 use Rattle.line.specs.declared.ending.LineFault.{LineFault}
 use Rattle.line.specs.declared.event.Event.{Event}
 
 abbrev pub Took : List Event → Ending → Result (Option Event) LineFault → List Event → Ending → Type 0
 Took es end (Ok (Some e)) es' end' = (es ≡ e ∷ es') × (end' ≡ end)
-Took es end (Ok None) es' end' = (es ≡ []) × (end ≡ Dry) × (es' ≡ []) × (end' ≡ Dry)
-Took es end (Err f) es' end' = (es ≡ []) × (end ≡ Broken f) × (es' ≡ []) × (end' ≡ Broken f)
+Took es end (Ok None) es' end' = (es ≡ []) × (end ≡ dry) × (es' ≡ []) × (end' ≡ dry)
+Took es end (Err f) es' end' = (es ≡ []) × (end ≡ Err f) × (es' ≡ []) × (end' ≡ Err f)
 
 abbrev pub Takes : {L : Type 0} → (L → List Event) → (L → Ending) → L → Result (Option Event) LineFault → L → Type 0
 Takes waits ending l r l' = Took (waits l) (ending l) r (waits l') (ending l')

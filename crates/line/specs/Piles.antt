@@ -4,7 +4,7 @@
 -- piled p es     what waits in the pile p where es wait at its bottom
 -- PileTakes      what taking from the pile means, by what waits at its bottom and how that ends
 use Rattle.std.specs.Prelude.{List, map, Option, Result}
-use Rattle.line.specs.declared.ending.Ending.{Ending}
+use Rattle.line.specs.Endings.{Ending}
 use Rattle.line.specs.declared.ending.LineFault.{LineFault}
 use Rattle.line.specs.declared.event.Event.{Event}
 use Rattle.line.specs.declared.gate.Gate.{Gate}

@@ -10,8 +10,9 @@
 -- cause_of f     the number of a flaw
 -- fault f n      the flaw as a line's fault at the word of number n
 -- Spoils f n w   w has the flaw f as the word of number n; the want of an end is a flaw of the whole, never of a word
+-- Word           what a word may say: an event, that the line ends here, or a flaw
 -- Says n w x     w says x as the word of number n
-use Rattle.std.specs.Prelude.{◌≡◌, ℕ, ◌+◌, ◌*◌, ◌/◌, ◌%◌, ◌^◌, ◌<◌, ◌≤◌, ◌≢◌}
+use Rattle.std.specs.Prelude.{◌≡◌, ℕ, ◌+◌, ◌*◌, ◌/◌, ◌%◌, ◌^◌, ◌<◌, ◌≤◌, ◌≢◌, Some, None, Ok, Err, Option, Result}
 use Rattle.line.specs.declared.ending.LineFault.{LineFault}
 use Rattle.line.specs.declared.event.Event.{Event}
 use Rattle.line.specs.declared.event.Event.TheVariants.{Pulse, Quiet}
@@ -19,8 +20,6 @@ use Rattle.line.specs.declared.event.Polarity.{Polarity}
 use Rattle.line.specs.declared.event.Polarity.TheVariants.{Negative, Positive}
 use Rattle.line.specs.declared.recording.Flaw.{Flaw}
 use Rattle.line.specs.declared.recording.Flaw.TheVariants.{UnknownKind, EmptyQuiet, UsedSpareBits, NoEnd, WrongCount}
-use Rattle.line.specs.declared.recording.Word.{Word}
-use Rattle.line.specs.declared.recording.Word.TheVariants.{Heard, End, Bad}
 
 abbrev pub kind : ℕ → ℕ
 kind w = w / 2 ^ 30
@@ -62,7 +61,10 @@ Spoils UsedSpareBits n w = (kind w ≡ 1) × (0 < spare w)
 Spoils NoEnd n w = ⊥
 Spoils WrongCount n w = (kind w ≡ 2) × (amount w ≢ n)
 
+abbrev pub Word : Type 0
+Word = Result (Option Event) Flaw
+
 abbrev pub Says : ℕ → ℕ → Word → Type 0
-Says n w (Heard e) = w ≡ word_of e
-Says n w End = (kind w ≡ 2) × (amount w ≡ n)
-Says n w (Bad f) = Spoils f n w
+Says n w (Ok (Some e)) = w ≡ word_of e
+Says n w (Ok None) = (kind w ≡ 2) × (amount w ≡ n)
+Says n w (Err f) = Spoils f n w

@@ -4,6 +4,7 @@ ghost use Rattle.line.specs.Limits.{highest, longest};
 
 mod in_word;
 pub mod limits;
+pub mod sides;
 pub mod turned;
 
 /// The side to which a pulse goes.
@@ -21,6 +22,7 @@ pub struct Height {
 }
 
 /// The length of a quiet in ticks of 125 ns: 1 to 1,073,741,823.
+// A type of its own and none over any limits: height and ticks are refused and read under other names.
 #[derive(Clone, Copy, PartialEq, Eq, Debug)]
 pub struct Ticks {
     count: u32,

@@ -10,6 +10,7 @@ pub mod event;
 pub mod gate;
 pub mod line;
 pub mod pile;
+pub mod pour;
 pub mod recording;
 pub mod refusal;
 #[cfg(test)]

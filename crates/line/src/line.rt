@@ -1,6 +1,6 @@
 //! Lines, by what they mean.
 ghost use Rattle.std.specs.Prelude.{List};
-ghost use Rattle.line.specs.declared.ending.Ending.{Ending};
+ghost use Rattle.line.specs.Endings.{Ending};
 ghost use Rattle.line.specs.declared.event.Event.{Event};
 ghost use Rattle.line.specs.Lines.{Takes};
 

@@ -1,12 +1,11 @@
 //! A recording: a line read from the caller's words.
 ghost use Rattle.std.specs.Prelude.{◌≤◌, length};
 
-use crate::event::Event;
-
 mod format;
 mod reads;
 
 /// A recorder's words, lent, and the number of the next one to read. No word is copied.
+// The number stands beside the words, as a rule of the project has it: a fault names its place by it.
 #[derive(Drop)]
 pub struct Recording<'a> {
     words: &'a [u32],
@@ -22,12 +21,4 @@ pub(crate) enum Flaw {
     UsedSpareBits,
     NoEnd,
     WrongCount,
-}
-
-/// What one word of a recording says.
-#[derive(Clone, Copy)]
-pub(crate) enum Word {
-    Heard(Event),
-    End,
-    Bad(Flaw),
 }

@@ -11,6 +11,7 @@ pub enum Refusal {
 
 impl Refusal {
     /// The number of the refusal: 1 for a height, 2 for ticks.
+    // A name and no `From`: it says which number.
     pub fn number(self) -> u8
         ensures { result ≡ number self }
     {

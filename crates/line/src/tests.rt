@@ -12,11 +12,11 @@ use std::process::Abort;
 use std::test::Fail;
 
 fn quiet(count: u32) -> Result<Event, Refusal> {
-    Ok(Event::Quiet(Ticks::new(count)?))
+    Ok(Event::Quiet(Ticks::try_from(count)?))
 }
 
 fn pulse(polarity: Polarity, mv: u16) -> Result<Event, Refusal> {
-    Ok(Event::Pulse(polarity, Height::new(mv)?))
+    Ok(Event::Pulse(polarity, Height::try_from(mv)?))
 }
 
 // The line hands out just these events, and then the same ending twice.
@@ -25,10 +25,7 @@ fn hands_out<L: Line>(rt: &impl Abort, line: &mut L, events: &[Event], ending: E
         assert_eq!(rt; line.take(), Ok(Some(*event)));
     }
     for _ in 0..2 {
-        match ending {
-            Ending::Dry => assert_eq!(rt; line.take(), Ok(None)),
-            Ending::Broken(fault) => assert_eq!(rt; line.take(), Err(fault)),
-        }
+        assert_eq!(rt; line.take(), ending.map(|()| None));
     }
 }
 
@@ -39,34 +36,25 @@ fn reads(rt: &impl Abort, words: &[u32], events: &[Event], ending: Ending) {
 }
 
 fn broken(cause: u32, place: u64) -> Ending {
-    Ending::Broken(LineFault { cause, place })
+    Err(LineFault { cause, place })
 }
 
 #[test]
 fn limits(rt: HostRuntime) -> Result<(), Fail> {
     for mv in [0, 812, 8191] {
-        assert_eq!(rt; Height::new(mv)?.mv(), mv);
+        assert_eq!(rt; Height::try_from(mv)?.mv(), mv);
     }
     for mv in [8192, 65535] {
-        match Height::new(mv) {
-            Ok(_) => return Err(Fail::new("a height above 8,191")),
-            Err(refusal) => assert_eq!(rt; refusal.number(), 1),
-        }
+        assert_eq!(rt; Height::try_from(mv).map_err(Refusal::number), Err(1));
     }
     for count in [1, 24, 1_073_741_823] {
-        assert_eq!(rt; Ticks::new(count)?.count(), count);
+        assert_eq!(rt; Ticks::try_from(count)?.count(), count);
     }
     for count in [0, 1_073_741_824, u32::MAX] {
-        match Ticks::new(count) {
-            Ok(_) => return Err(Fail::new("ticks outside 1 to 1,073,741,823")),
-            Err(refusal) => assert_eq!(rt; refusal.number(), 2),
-        }
+        assert_eq!(rt; Ticks::try_from(count).map_err(Refusal::number), Err(2));
     }
     for mv in [8192, 65535] {
-        match Threshold::new(mv) {
-            Ok(_) => return Err(Fail::new("a threshold above 8,191")),
-            Err(refusal) => assert_eq!(rt; refusal.number(), 1),
-        }
+        assert_eq!(rt; Threshold::try_from(mv).map_err(Refusal::number), Err(1));
     }
     Ok(())
 }
@@ -86,7 +74,7 @@ fn words_and_their_events(rt: HostRuntime) -> Result<(), Fail> {
     ];
     for (word, event) in table {
         let words = [word, 0x8000_0001];
-        reads(&rt, &words, &[event], Ending::Dry);
+        reads(&rt, &words, &[event], Ok(()));
     }
     Ok(())
 }
@@ -130,7 +118,7 @@ fn ends_and_what_follows_them(rt: HostRuntime) -> Result<(), Fail> {
             broken(7, count as u64),
         );
     }
-    reads(&rt, &[0x8000_0000], &[], Ending::Dry);
+    reads(&rt, &[0x8000_0000], &[], Ok(()));
     reads(&rt, &[0x8000_0001, 24], &[], broken(8, 0));
     reads(&rt, &[24, 0x8000_0000], &[event], broken(8, 1));
     for rubbish in [
@@ -143,9 +131,9 @@ fn ends_and_what_follows_them(rt: HostRuntime) -> Result<(), Fail> {
         0x8000_0003,
     ] {
         let at_once = [0x8000_0000, rubbish, rubbish];
-        reads(&rt, &at_once, &events[0..0], Ending::Dry);
+        reads(&rt, &at_once, &events[0..0], Ok(()));
         let after_one = [24, 0x8000_0001, rubbish];
-        reads(&rt, &after_one, &events[0..1], Ending::Dry);
+        reads(&rt, &after_one, &events[0..1], Ok(()));
     }
     Ok(())
 }
@@ -159,7 +147,7 @@ fn gates_turns_and_piles(rt: HostRuntime) -> Result<(), Fail> {
         quiet(48)?,
         pulse(Polarity::Negative, 101)?,
     ];
-    let mut gate = Gate::new(Recording::new(&words), Threshold::new(100)?);
+    let mut gate = Gate::new(Recording::new(&words), Threshold::try_from(100)?);
     hands_out(&rt, &mut gate, &kept, broken(4, 5));
     let turned = [
         pulse(Polarity::Positive, 99)?,
@@ -174,8 +162,8 @@ fn gates_turns_and_piles(rt: HostRuntime) -> Result<(), Fail> {
         &turned,
         broken(4, 5),
     );
-    let low = Gate::new(Recording::new(&words), Threshold::new(100)?);
-    let mut high = Gate::new(Turn::new(low), Threshold::new(101)?);
+    let low = Gate::new(Recording::new(&words), Threshold::try_from(100)?);
+    let mut high = Gate::new(Turn::new(low), Threshold::try_from(101)?);
     assert_eq!(rt; pile::take_piled(&mut high), Ok(Some(quiet(24)?)));
     let rest = [quiet(48)?, pulse(Polarity::Positive, 101)?];
     hands_out(&rt, &mut high, &rest, broken(4, 5));
@@ -191,13 +179,13 @@ fn gates_at_their_limits(rt: HostRuntime) -> Result<(), Fail> {
         pulse(Polarity::Negative, 8191)?,
         quiet(1)?,
     ];
-    let mut open = Gate::new(Recording::new(&words), Threshold::new(0)?);
-    hands_out(&rt, &mut open, &all, Ending::Dry);
-    let mut shut = Gate::new(Recording::new(&words), Threshold::new(8191)?);
-    hands_out(&rt, &mut shut, &all[2..4], Ending::Dry);
+    let mut open = Gate::new(Recording::new(&words), Threshold::try_from(0)?);
+    hands_out(&rt, &mut open, &all, Ok(()));
+    let mut shut = Gate::new(Recording::new(&words), Threshold::try_from(8191)?);
+    hands_out(&rt, &mut shut, &all[2..4], Ok(()));
     let end = [0x8000_0000];
-    let mut empty = Gate::new(Turn::new(Recording::new(&end)), Threshold::new(8191)?);
-    hands_out(&rt, &mut empty, &[], Ending::Dry);
+    let mut empty = Gate::new(Turn::new(Recording::new(&end)), Threshold::try_from(8191)?);
+    hands_out(&rt, &mut empty, &[], Ok(()));
     Ok(())
 }
 

@@ -11,15 +11,19 @@ pub struct Threshold {
     least: Height,
 }
 
-impl Threshold {
-    /// The threshold of `mv` millivolts, refused by 1 above 8,191.
-    pub fn new(mv: u16) -> Result<Threshold, Refusal>
-        ensures { ThresholdMade mv result }
-    {
-        let least = Height::new(mv)?;
+/// The threshold of so many millivolts, refused by 1 above 8,191.
+impl TryFrom<u16> for Threshold {
+    type Error = Refusal;
+
+    ghost try_from_gives = { ThresholdMade };
+
+    fn try_from(mv: u16) -> Result<Threshold, Refusal> {
+        let least = Height::try_from(mv)?;
         Ok(Threshold { least })
     }
+}
 
+impl Threshold {
     /// Is `height` at least the threshold?
     pub fn admits(self, height: Height) -> bool
         ensures { result ≡ admits self height }

@@ -27,9 +27,6 @@ impl<L: Line> Line for Turn<L> {
     ghost ending = { λ s. L.Line.ending s.below };
 
     fn take(&mut self) -> Result<Option<Event>, LineFault> {
-        match self.below.take()? {
-            Some(event) => Ok(Some(event.turned())),
-            None => Ok(None),
-        }
+        Ok(self.below.take()?.map(Event::turned))
     }
 }

@@ -14,11 +14,11 @@ use Rattle.std.specs.Prelude.{◌≡◌, ℕ, zero, suc, ◌+◌, ◌*◌, ◌/�
 use Rattle.std.specs.Bool.{beq}
 use Rattle.line.specs.declared.event.Polarity.{Polarity}
 use Rattle.line.specs.declared.event.Polarity.TheVariants.{Negative, Positive}
+use Rattle.line.specs.Sides.{polarity_of}
 use Rattle.line.specs.Turns.{opposite}
 
 abbrev pub polarity : Bool → Polarity
-polarity false = Negative
-polarity true = Positive
+polarity b = polarity_of b
 
 abbrev pub gap : Bool → Bool → Option Polarity
 gap a b = cond (beq a b) (Some (opposite (polarity a))) None

@@ -6,6 +6,7 @@
 -- same_answer, same_request   records with the same fields are the same
 use Rattle.std.specs.Prelude.{◌≡◌, ℕ, ◌%◌, ◌<◌, Bool, true, false, List, [], ◌∷◌, ◌++◌, length, slice_index_or, refl}
 use Rattle.std.proofs.Common.{sym, ap, subst, ◌∙◌, mod-eq_of_lt, arith}
+use mathlib.Core.HLevel.{is_prop→PathP}
 use Rattle.std.proofs.Math.Bridge.{le_prop}
 use Rattle.std.proofs.lemmas.Bool.{eqb-false, eqb-true}
 use Rattle.std.proofs.lemmas.Bool.Decides.{nat_tests}
@@ -38,12 +39,8 @@ frame_is ds s p q es eq even =
 spelt : (n : ℕ) (w : List Bool) → length w ≡ n → listed (λ k. slice_index_or w k false) n ≡ w
 spelt n w e = ap (listed (λ k. slice_index_or w k false)) (sym e) ∙ listed_is w (λ k. slice_index_or w k false) (λ k. refl)
 
-abbrev answer : (n : ℕ) → n < 16 → Answer
-answer n p = record { nibble = n; low = p }
-
 pub same_answer : (a b : Answer) → a.nibble ≡ b.nibble → a ≡ b
-same_answer a b e =
-    subst (λ m. (q : m < 16) → a ≡ answer m q) e (λ q. ap (answer a.nibble) (le_prop a.low q)) b.low
+same_answer a b e = λ i. record { nibble = e i; low = is_prop→PathP (λ j. e j < 16) (λ j. le_prop) a.low b.low i }
 
 pub answer_back : (r : Answer) → answer_record (answer_row r) ≡ r
 answer_back r = same_answer _ r (value-digits 4 r.nibble ∙ mod-eq_of_lt r.low)
@@ -58,18 +55,15 @@ answer_forth w p =
     let P : List Bool → Type 0 = λ v. Proper 7 v → answer_row (answer_record v) ≡ v in
     subst P (spelt 7 w p.long) (answer_spelt (λ k. slice_index_or w k false)) p
 
-abbrev request : (c a i : ℕ) → c < 2 → a < 32 → i < 32 → Request
-request c a i x y z = record { control = c; address = a; information = i; one = x; low = y; few = z }
-
 pub same_request : (p q : Request) → p.control ≡ q.control → p.address ≡ q.address → p.information ≡ q.information → p ≡ q
-same_request p q ec ea ei =
-    subst (λ c. (x : c < 2) → p ≡ request c q.address q.information x q.low q.few) ec (λ x.
-    subst (λ a. (y : a < 32) → p ≡ request p.control a q.information x y q.few) ea (λ y.
-    subst (λ i. (z : i < 32) → p ≡ request p.control p.address i x y z) ei (λ z.
-    ap (λ x. request p.control p.address p.information x p.low p.few) (le_prop p.one x)
-    ∙ ap (λ y. request p.control p.address p.information x y p.few) (le_prop p.low y)
-    ∙ ap (λ z. request p.control p.address p.information x y z) (le_prop p.few z))
-    q.few) q.low) q.one
+same_request p q c a n = λ i. record {
+  control = c i;
+  address = a i;
+  information = n i;
+  one = is_prop→PathP (λ j. c j < 2) (λ j. le_prop) p.one q.one i;
+  low = is_prop→PathP (λ j. a j < 32) (λ j. le_prop) p.low q.low i;
+  few = is_prop→PathP (λ j. n j < 32) (λ j. le_prop) p.few q.few i;
+}
 
 pub request_even : (r : Request) → Even (request_row r)
 request_even r = parity_even (digits 1 r.control ++ (digits 5 r.address ++ digits 5 r.information))

@@ -1,4 +1,6 @@
 pub mod Refusals
+pub mod Limits
+pub mod Closings
 pub mod Bits
 pub mod Digits
 pub mod Records

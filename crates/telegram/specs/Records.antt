@@ -4,7 +4,6 @@
 -- request_record w   the request in the fields of w
 -- answer_row r       a start 0, four bits of the nibble, the parity bit, an end 1
 -- answer_record w    the answer in the fields of w
--- SameFields p q     two requests have the same fields
 -- RequestIn c a i    the fields c, a, i are in their ranges
 -- RequestMade c a i  what making a request of c, a, i answers
 -- AnswerMade n       what making an answer of the nibble n answers
@@ -33,9 +32,6 @@ answer_row r = framed (digits 4 r.nibble)
 
 abbrev pub answer_record : List Bool → Answer
 answer_record w = record { nibble = value (part 1 4 w); low = part_lt 1 4 w }
-
-abbrev pub SameFields : Request → Request → Type 0
-SameFields p q = (p.control ≡ q.control) × (p.address ≡ q.address) × (p.information ≡ q.information)
 
 abbrev pub RequestIn : ℕ → ℕ → ℕ → Type 0
 RequestIn c a i = (c < 2) × (a < 32) × (i < 32)

@@ -5,6 +5,7 @@
 
 pub mod answer;
 mod bits;
+pub mod closing;
 pub mod kind;
 pub mod refusal;
 pub mod request;

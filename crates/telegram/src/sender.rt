@@ -1,13 +1,13 @@
 //! A line that sends one telegram.
-ghost use Rattle.std.specs.Prelude.{◌≤◌};
-
 use crate::kind::Kind;
 use line::event::{Height, Polarity, Ticks};
+use std::marker::Model;
 
 pub mod handing;
 pub mod making;
 
 /// What a sender hands over next.
+// A state and no closures: a line hands over one event a call, so this has to be kept from call to call.
 #[derive(Clone, Copy)]
 pub(crate) enum Due {
     Pulse(Polarity),
@@ -31,5 +31,17 @@ pub struct Sender<K: Kind> {
     closing: Ticks,
     due: Due,
     at: usize,
-    ghost low: { at ≤ 26 },
+}
+
+// Clauses see the height, the closing quiet, and what waits.
+impl<K: Kind> Model for Sender<K> {
+    ghost use Rattle.std.specs.Prelude.{◌≤◌};
+    ghost use Rattle.telegram.specs.Sending.{Sending};
+    ghost use Rattle.telegram.specs.Handing.{waiting};
+
+    ghost Value = { Sending };
+
+    ghost view = { λ s. record { height = s.height; closing = s.closing; waits = waiting s.height s.closing s.due s.at (K.Kind.row_of s.telegram) } };
+
+    ghost invariant = { λ s. s.at ≤ 26 };
 }

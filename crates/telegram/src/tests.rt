@@ -2,12 +2,15 @@
 use crate::answer::Answer;
 use crate::answer::coding::Answers;
 use crate::kind::Kind;
+use crate::refusal::Refusal;
 use crate::request::Request;
 use crate::request::coding::Requests;
 use crate::row::Row;
+use crate::row::growing::Full;
 use crate::sender::Sender;
 use line::event::{Event, Height, Polarity, Ticks};
 use line::line::Line;
+use std::fmt::Debug;
 use std::process::Abort;
 use std::test::Fail;
 
@@ -23,7 +26,7 @@ fn has_bits(rt: &impl Abort, row: &Row, bits: &[bool]) {
 #[test]
 fn records_in_their_ranges(rt: HostRuntime) -> Result<(), Fail> {
     for nibble in 0..16 {
-        assert_eq!(rt; Answer::new(nibble)?.nibble as u16, nibble);
+        assert_eq!(rt; Answer::try_from(nibble)?.nibble as u16, nibble);
     }
     for control in 0..2 {
         for field in [0, 1, 16, 31] {
@@ -39,10 +42,7 @@ fn records_in_their_ranges(rt: HostRuntime) -> Result<(), Fail> {
 #[test]
 fn records_out_of_their_ranges(rt: HostRuntime) -> Result<(), Fail> {
     for nibble in [16, 255, 256, 65535] {
-        match Answer::new(nibble) {
-            Ok(_) => return Err(Fail::new("an answer above 15")),
-            Err(refusal) => assert_eq!(rt; refusal.number(), 9),
-        }
+        assert_eq!(rt; Answer::try_from(nibble).map_err(Refusal::number), Err(9));
     }
     for (control, address, information) in [
         (2, 0, 0),
@@ -51,19 +51,17 @@ fn records_out_of_their_ranges(rt: HostRuntime) -> Result<(), Fail> {
         (256, 5, 9),
         (0, 65535, 9),
     ] {
-        match Request::new(control, address, information) {
-            Ok(_) => return Err(Fail::new("a request out of its ranges")),
-            Err(refusal) => assert_eq!(rt; refusal.number(), 9),
-        }
+        let made = Request::new(control, address, information);
+        assert_eq!(rt; made.map_err(Refusal::number), Err(9));
     }
     Ok(())
 }
 
 #[test]
 fn rows_of_records(rt: HostRuntime) -> Result<(), Fail> {
-    let five = Answers::row(&Answer::new(5)?);
+    let five = Answers::row(&Answer::try_from(5)?);
     has_bits(&rt, &five, &[false, false, true, false, true, false, true]);
-    let seven = Answers::row(&Answer::new(7)?);
+    let seven = Answers::row(&Answer::try_from(7)?);
     has_bits(&rt, &seven, &[false, false, true, true, true, true, true]);
     let request = Requests::row(&Request::new(1, 5, 9)?);
     let bits = [
@@ -73,13 +71,20 @@ fn rows_of_records(rt: HostRuntime) -> Result<(), Fail> {
     Ok(())
 }
 
+// The bits between the ends of a telegram's row have an even sum, and the row gives the telegram back.
+fn comes_back<K: Kind>(rt: &impl Abort, telegram: K::Record)
+where
+    K::Record: PartialEq + Debug,
+{
+    let row = K::row(&telegram);
+    assert!(rt; !row.odd_between());
+    assert_eq!(rt; K::record(&row), telegram);
+}
+
 #[test]
 fn every_answer_and_its_row(rt: HostRuntime) -> Result<(), Fail> {
     for nibble in 0..16 {
-        let answer = Answer::new(nibble)?;
-        let row = Answers::row(&answer);
-        assert!(rt; !row.odd_between());
-        assert_eq!(rt; Answers::record(&row), answer);
+        comes_back::<Answers>(&rt, Answer::try_from(nibble)?);
     }
     Ok(())
 }
@@ -89,10 +94,7 @@ fn every_request_and_its_row(rt: HostRuntime) -> Result<(), Fail> {
     for control in 0..2 {
         for address in 0..32 {
             for information in 0..32 {
-                let request = Request::new(control, address, information)?;
-                let row = Requests::row(&request);
-                assert!(rt; !row.odd_between());
-                assert_eq!(rt; Requests::record(&row), request);
+                comes_back::<Requests>(&rt, Request::new(control, address, information)?);
             }
         }
     }
@@ -105,9 +107,9 @@ fn a_row_grows_to_fourteen_bits(rt: HostRuntime) {
     assert_eq!(rt; row.len(), 0);
     assert!(rt; !row.odd_between());
     for k in 0..14 {
-        assert!(rt; row.push(k % 3 == 0));
+        assert_eq!(rt; row.push(k % 3 == 0), Ok(()));
     }
-    assert!(rt; !row.push(true));
+    assert_eq!(rt; row.push(true), Err(Full));
     assert_eq!(rt; row.len(), 14);
     assert!(rt; row.bit(12));
     assert!(rt; !row.bit(13));
@@ -117,10 +119,10 @@ fn a_row_grows_to_fourteen_bits(rt: HostRuntime) {
 #[test]
 fn a_row_too_short_for_its_fields(rt: HostRuntime) -> Result<(), Fail> {
     let mut row = Row::new();
-    assert_eq!(rt; Answers::record(&row), Answer::new(0)?);
-    row.push(true);
-    row.push(true);
-    assert_eq!(rt; Answers::record(&row), Answer::new(8)?);
+    assert_eq!(rt; Answers::record(&row), Answer::try_from(0)?);
+    assert_eq!(rt; row.push(true), Ok(()));
+    assert_eq!(rt; row.push(true), Ok(()));
+    assert_eq!(rt; Answers::record(&row), Answer::try_from(8)?);
     assert_eq!(rt; Requests::record(&row), Request::new(1, 0, 0)?);
     Ok(())
 }
@@ -162,7 +164,11 @@ fn looks(rt: &impl Abort, row: &Row, drawing: &[u8]) {
 #[test]
 fn all_answers_by_slot(rt: HostRuntime) -> Result<(), Fail> {
     for (nibble, drawing) in ANSWERS.iter().enumerate() {
-        looks(&rt, &Answers::row(&Answer::new(nibble as u16)?), drawing);
+        looks(
+            &rt,
+            &Answers::row(&Answer::try_from(nibble as u16)?),
+            drawing,
+        );
     }
     Ok(())
 }
@@ -189,54 +195,47 @@ fn requests_by_slot(rt: HostRuntime) -> Result<(), Fail> {
 
 #[test]
 fn what_a_sender_hands_over(rt: HostRuntime) -> Result<(), Fail> {
-    let mut sender = match Sender::<Answers>::new(Answer::new(5)?, 812, 100) {
-        Ok(sender) => sender,
-        Err(_) => return Err(Fail::new("a sender within its limits")),
-    };
-    let mut positive = false;
+    let mut sender = Sender::<Answers>::new(Answer::try_from(5)?, 812, 100)?;
+    let mut polarity = Polarity::Negative;
     for slots in [1, 1, 2, 2, 2, 2, 2] {
-        let polarity = if positive {
-            Polarity::Positive
-        } else {
-            Polarity::Negative
-        };
         assert_eq!(rt;
             sender.take(),
-            Ok(Some(Event::Pulse(polarity, Height::new(812)?)))
+            Ok(Some(Event::Pulse(polarity, Height::try_from(812)?)))
         );
         assert_eq!(rt;
             sender.take(),
-            Ok(Some(Event::Quiet(Ticks::new(24 * slots)?)))
+            Ok(Some(Event::Quiet(Ticks::try_from(24 * slots)?)))
         );
-        positive = !positive;
+        polarity = polarity.opposite();
     }
     assert_eq!(rt;
         sender.take(),
-        Ok(Some(Event::Pulse(Polarity::Positive, Height::new(812)?)))
+        Ok(Some(Event::Pulse(Polarity::Positive, Height::try_from(812)?)))
     );
-    assert_eq!(rt; sender.take(), Ok(Some(Event::Quiet(Ticks::new(100)?))));
+    assert_eq!(rt;
+        sender.take(),
+        Ok(Some(Event::Quiet(Ticks::try_from(100)?)))
+    );
     assert_eq!(rt; sender.take(), Ok(None));
     assert_eq!(rt; sender.take(), Ok(None));
     Ok(())
 }
 
-// The number by which a sender of these limits is refused, or 0.
-fn refused(mv: u16, closing: u32) -> Result<u8, Fail> {
-    match Sender::<Answers>::new(Answer::new(0)?, mv, closing) {
-        Ok(_) => Ok(0),
-        Err(refusal) => Ok(refusal.number()),
-    }
+// The number by which a sender of these limits is refused, if it is.
+fn refused(mv: u16, closing: u32) -> Result<Option<u8>, Fail> {
+    let made = Sender::<Answers>::new(Answer::try_from(0)?, mv, closing);
+    Ok(made.err().map(Refusal::number))
 }
 
 #[test]
 fn limits_of_a_sender(rt: HostRuntime) -> Result<(), Fail> {
-    assert_eq!(rt; refused(8191, 72)?, 0);
-    assert_eq!(rt; refused(0, 4000)?, 0);
-    assert_eq!(rt; refused(8192, 72)?, 1);
-    assert_eq!(rt; refused(8192, 71)?, 1);
-    assert_eq!(rt; refused(8191, 71)?, 10);
-    assert_eq!(rt; refused(0, 0)?, 10);
-    assert_eq!(rt; refused(0, 4001)?, 10);
-    assert_eq!(rt; refused(0, u32::MAX)?, 10);
+    assert_eq!(rt; refused(8191, 72)?, None);
+    assert_eq!(rt; refused(0, 4000)?, None);
+    assert_eq!(rt; refused(8192, 72)?, Some(1));
+    assert_eq!(rt; refused(8192, 71)?, Some(1));
+    assert_eq!(rt; refused(8191, 71)?, Some(10));
+    assert_eq!(rt; refused(0, 0)?, Some(10));
+    assert_eq!(rt; refused(0, 4001)?, Some(10));
+    assert_eq!(rt; refused(0, u32::MAX)?, Some(10));
     Ok(())
 }

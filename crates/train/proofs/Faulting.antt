@@ -1,6 +1,7 @@
 -- The computed fault of a train's pulses is the first in the order of the pulses, and among the causes of a pulse.
-use Rattle.std.proofs.Common.{◌≡◌, ℕ, ◌+◌, ◌/◌, Bool, true, false, ◌&&◌, ltb, List, [], ◌∷◌, ◌++◌, length, Some, None, Ok, Err, Option, sym, refl, ap, ◌∙◌, subst, inl, inr, ⊎_elim, true≢false, arith}
-use Rattle.std.proofs.lemmas.Bool.{and_parts, ltb-false, ltb-true}
+use Rattle.std.proofs.Common.{◌≡◌, ℕ, ◌+◌, ◌/◌, Bool, true, false, ◌&&◌, ltb, List, [], ◌∷◌, ◌++◌, length, Some, None, Ok, Err, Option, sym, refl, ◌∙◌, subst, inr, true≢false, arith}
+use Rattle.std.proofs.lemmas.Bool.{ltb-false, ltb-true}
+use Rattle.std.proofs.lemmas.Option.{none-some}
 use Rattle.line.specs.declared.event.Polarity.{Polarity}
 use Rattle.line.specs.declared.event.Polarity.TheVariants.{Negative, Positive}
 use Rattle.train.specs.declared.fault.Cause.{Cause}
@@ -13,7 +14,7 @@ use Rattle.train.specs.Trains.{Train, last}
 use Rattle.train.specs.Verdicts.{blamed, later_fault, or_else}
 use Rattle.train.specs.Windows.{in_slot, place}
 use Rattle.train.proofs.Carrying.{none_at}
-use Rattle.train.proofs.Checking.{after_true, chain, checked_err, checked_ok, in_slot_tells, some_none}
+use Rattle.train.proofs.Checking.{after_tells, after_true, chain, checked_err, checked_ok}
 
 -- what the computed check means
 abbrev Meant : ℕ → Polarity → TimedPulse → Option Cause → Type 0
@@ -25,20 +26,12 @@ meant m p x = go (in_slot (place x.t) x.t && ltb m (place x.t)) (ltb top (place 
   where
     go : (a b c d : Bool) → in_slot (place x.t) x.t && ltb m (place x.t) ≡ a → ltb top (place x.t) ≡ b → alike p x.polarity ≡ c → ltb (next_even m) (place x.t) ≡ d → Meant m p x (chain a b c d)
     go false b c d ea eb ec ed = λ k h. true≢false (sym (after_true m k x.t h) ∙ ea)
-    go true true c d ea eb ec ed =
-        let h = and_parts _ _ ea in
-        (place x.t, (in_slot_tells _ _ h.0, ltb-true _ _ h.1), ltb-true _ _ eb)
-    go true false true d ea eb ec ed =
-        let h = and_parts _ _ ea in
-        (place x.t, (in_slot_tells _ _ h.0, ltb-true _ _ h.1), ltb-false _ _ eb, ec)
+    go true true c d ea eb ec ed = (place x.t, after_tells m x.t ea, ltb-true _ _ eb)
+    go true false true d ea eb ec ed = (place x.t, after_tells m x.t ea, ltb-false _ _ eb, ec)
     go true false false true ea eb ec ed =
-        let h = and_parts _ _ ea in
         let far = ltb-true _ _ ed in
-        (place x.t, (in_slot_tells _ _ h.0, ltb-true _ _ h.1), ltb-false _ _ eb, ec, (m / 2 + 1, omega arith, omega arith))
-    go true false false false ea eb ec ed =
-        let h = and_parts _ _ ea in
-        let near = ltb-false _ _ ed in
-        ((in_slot_tells _ _ h.0, ltb-true _ _ h.1), ltb-false _ _ eb, ec, λ k. let low = k.1 in let high = k.2 in omega arith)
+        (place x.t, after_tells m x.t ea, ltb-false _ _ eb, ec, (m / 2 + 1, omega arith, omega arith))
+    go true false false false ea eb ec ed = (after_tells m x.t ea, ltb-false _ _ eb, ec, λ k. omega (arith, ltb-false _ _ ed, k.1, k.2))
 
 -- fair pulses are those without a fault
 
@@ -50,33 +43,21 @@ none_fair n y (x ∷ l) e =
 
 fair_none : (n : ℕ) (y : TimedPulse) (l : List TimedPulse) → AllFair y l → later_fault n y l ≡ None
 fair_none n y [] h = refl
-fair_none n y (x ∷ l) h =
-    ap (λ c. or_else (blamed c n x.t) (later_fault (n + 1) x l)) (checked_ok _ _ _ x h.0).0 ∙ fair_none (n + 1) x l h.1
+fair_none n y (x ∷ l) h = grind (arith, checked_ok _ _ _ x h.0, fair_none (n + 1) x l h.1)
 
 -- the first fault is at the pulse after the fair ones
 
 faulty_some : (n : ℕ) (y : TimedPulse) (l : List TimedPulse) (x : TimedPulse) (r : List TimedPulse) (c : Cause) → AllFair y l → Checked (place (last y l).t) (last y l).polarity x (Err c) → later_fault n y (l ++ (x ∷ r)) ≡ Some (fault c (length l + n) x.t)
-faulty_some n y [] x r c h e =
-    ap (λ o. or_else (blamed o n x.t) (later_fault (n + 1) x r)) (checked_err _ _ x c e) ∙ ap (λ k. Some (fault c k x.t)) (omega arith)
-faulty_some n y (z ∷ l) x r c h e =
-    ap (λ o. or_else (blamed o n z.t) (later_fault (n + 1) z (l ++ (x ∷ r)))) (checked_ok _ _ _ z h.0).0
-    ∙ faulty_some (n + 1) z l x r c h.1 e
-    ∙ ap (λ k. Some (fault c k x.t)) (omega arith)
-
-some_is : (a b : Fault) → Some a ≡ Some b → a ≡ b
-some_is a b e = ap held e
-  where
-    held : Option Fault → Fault
-    held None = a
-    held (Some x) = x
+faulty_some n y [] x r c h e = grind (arith, checked_err _ _ x c e)
+faulty_some n y (z ∷ l) x r c h e = grind (arith, checked_ok _ _ _ z h.0, faulty_some (n + 1) z l x r c h.1 e)
 
 some_found : (n : ℕ) (y : TimedPulse) (l : List TimedPulse) (f : Fault) → later_fault n y l ≡ Some f → FaultyAfter n y l f
-some_found n y [] f e = absurd (some_none f e)
+some_found n y [] f e = absurd (none-some f e)
 some_found n y (x ∷ l) f e = go (cause_of y x) (meant (place y.t) y.polarity x) e (some_found (n + 1) x l f)
   where
     go : (o : Option Cause) → Meant (place y.t) y.polarity x o → or_else (blamed o n x.t) (later_fault (n + 1) x l) ≡ Some f → (later_fault (n + 1) x l ≡ Some f → FaultyAfter (n + 1) x l f) → FaultyAfter n y (x ∷ l) f
     go (Some c) h g ih =
-        record { front = []; bad = x; back = l; cause = c; whole = refl; fair = tt; gives = h; is = sym (some_is _ f g) ∙ ap (λ k. fault c k x.t) (omega arith) }
+        record { front = []; bad = x; back = l; cause = c; whole = refl; fair = tt; gives = h; is = grind arith }
     go None h g ih =
         let r = ih g in
         record {
@@ -84,30 +65,24 @@ some_found n y (x ∷ l) f e = go (cause_of y x) (meant (place y.t) y.polarity x
           bad = r.bad;
           back = r.back;
           cause = r.cause;
-          whole = ap (λ v. x ∷ v) r.whole;
+          whole = rw (← r.whole);
           fair = (h, r.fair);
           gives = r.gives;
-          is = r.is ∙ ap (λ k. fault r.cause k r.bad.t) (omega arith);
+          is = grind (arith, r.is);
         }
-
-sides : Negative ≡ Positive → ⊥
-sides e = let z : ◌≡◌ {A = ℕ} 0 1 = cc in absurd (omega arith)
 
 laws_of : (p : Polarity) (l : List TimedPulse) → FaultLaws (record { first = p; later = l })
 laws_of Positive l = record {
-  faulty = λ f. (λ e. inl (refl, sym (some_is _ f e)), λ h. ⊎_elim (λ a. ap Some (sym a.1)) (λ a. absurd (sides (sym a.0))) h);
-  sound = (λ e. absurd (some_none _ (sym e)), λ h. absurd (sides (sym h.0)));
+  faulty = λ f. (λ e. grind arith, λ h. grind arith);
+  sound = (λ e. grind arith, λ h. grind arith);
 }
 laws_of Negative l = record {
-  faulty = λ f. (λ e. inr (refl, some_found 2 _ l f e), λ h. ⊎_elim (λ a. absurd (sides a.0)) (λ a. back f a.1) h);
+  faulty = λ f. (λ e. inr (refl, some_found 2 _ l f e), λ h. grind (arith, back f));
   sound = (λ e. (refl, none_fair 2 _ l e), λ h. fair_none 2 _ l h.1);
 }
   where
     back : (f : Fault) → FaultyAfter 2 (record { t = 0; polarity = Negative }) l f → later_fault 2 (record { t = 0; polarity = Negative }) l ≡ Some f
-    back f r =
-        ap (later_fault 2 (record { t = 0; polarity = Negative })) r.whole
-        ∙ faulty_some 2 (record { t = 0; polarity = Negative }) r.front r.bad r.back r.cause r.fair r.gives
-        ∙ ap Some (sym r.is)
+    back f r = rw (r.whole, r.is) (faulty_some 2 (record { t = 0; polarity = Negative }) r.front r.bad r.back r.cause r.fair r.gives)
 
 pub fault_laws : (u : Train) → FaultLaws u
 fault_laws u = laws_of u.first u.later

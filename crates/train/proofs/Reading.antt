@@ -1,8 +1,7 @@
 -- The laws of reading, for any kind by its laws.
-use Rattle.std.proofs.Common.{◌≡◌, ℕ, ◌≤◌, Bool, List, length, sym, ap, ◌∙◌, subst, arith}
+use Rattle.std.proofs.Common.{◌≡◌, ℕ, ◌≤◌, Bool, List, length, sym, ap, ◌∙◌, arith}
 use Rattle.telegram.specs.Bits.{Ends, Even, Proper}
 use Rattle.telegram.specs.Coding.{held, slots}
-use Rattle.train.specs.Carried.{TrainOf}
 use Rattle.train.specs.Laws.{OnlyTelegrams, ReadBack, Reads, SentReadBack, SlotDistance}
 use Rattle.train.specs.Trains.{holds, opening, row}
 use Rattle.train.proofs.Apart.{far, near}
@@ -20,12 +19,12 @@ module _ {Record : Type 0} (size : ℕ) (row_of : Record → List Bool) (record_
   proper r = record { long = long r; ends = ends r; even = even r }
 
   read_back : ReadBack size row_of record_of
-  read_back r u t = (proper_clean size (row_of r) u most (proper r) t, ap record_of (row_is size (row_of r) u (long r) t) ∙ back r)
+  read_back r u t = (proper_clean size (row_of r) u most (proper r) t, rw (row_is size (row_of r) u (long r) t) (back r))
 
   only_telegrams : OnlyTelegrams size row_of record_of
   only_telegrams u c =
       let p = clean_proper size u (omega arith) most c in
-      subst (λ w. TrainOf w u) (sym (forth (row size u) p.0)) p.1
+      rw (forth (row size u) p.0) p.1
 
   slot_distance : SlotDistance size row_of record_of
   slot_distance u v cu cv =

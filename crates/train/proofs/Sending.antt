@@ -43,7 +43,7 @@ module _ (h : Height) (c : Ticks) where
   stamped (Some p ∷ s) g m n t some few q e f =
       let here : t + (ticks (24 * g)).count ≡ 24 * n = omega (arith, few_ticks g some few) in
       let more = stamped s 1 n (n + 1) (t + (ticks (24 * g)).count) (omega arith) (omega arith) q here refl in
-      λ i. record { t = here i; polarity = p } ∷ more i
+      grind (arith, here, more)
 
   clocked : (s : List (Option Polarity)) (g m n t : ℕ) (y : TimedPulse) → 1 ≤ g → g ≤ 2 → Close g s → t ≡ 24 * m → y.t ≡ t → n ≡ m + g → clock t (onward h c g s) ≡ (last y (on_time n s)).t + c.count
   clocked [] g m n t y some few q e z f = omega arith

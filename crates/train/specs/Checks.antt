@@ -69,8 +69,8 @@ check m p x =
     None)))
     (Some Timing)
 
-abbrev pub caught : Result ℕ Cause → Option Cause
-caught (Ok n) = None
+abbrev pub caught : {A : Type 0} → Result A Cause → Option Cause
+caught (Ok x) = None
 caught (Err c) = Some c
 
 pub record CheckLaws (m : ℕ) (p : Polarity) (x : TimedPulse) : Type 0 where

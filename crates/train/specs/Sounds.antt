@@ -8,10 +8,9 @@
 -- Follows s x s'   s' keeps what s keeps and one more pulse x, which is fair
 -- AsKind           what reading the train u as a kind answers, where the kind has so many bits and record_of is the record of a row
 -- ToldAsKind       the same of whatever train s tells
--- Rested size s c  what the checks at the rest say of whatever train s tells, as a kind of so many bits
-use Rattle.std.specs.Prelude.{◌≡◌, ℕ, ◌+◌, ◌%◌, Bool, false, cond, List, [], ◌∷◌, ◌++◌, Some, None, Ok, Err, Option, Result, ◌==◌}
+-- Rested size s r  what the checks at the rest answer of whatever train s tells, as a kind of so many bits
+use Rattle.std.specs.Prelude.{◌≡◌, ℕ, ◌+◌, ◌%◌, Bool, false, cond, List, [], ◌∷◌, ◌++◌, Some, None, Ok, Err, Result, ◌==◌}
 use Rattle.line.specs.declared.event.Polarity.{Polarity}
-use Rattle.telegram.specs.Rows.{row_bits}
 use Rattle.train.specs.declared.fault.Cause.{Cause}
 use Rattle.train.specs.declared.fault.Fault.{Fault}
 use Rattle.train.specs.declared.pulse.TimedPulse.{TimedPulse}
@@ -27,7 +26,7 @@ pub record Tells (s : Sound) (u : Train) : Type 0 where
   pub at : s.t ≡ (last_pulse u).t
   pub reached : s.slot ≡ last_slot u
   pub side : s.polarity ≡ (last_pulse u).polarity
-  pub seen : row_bits s.row ≡ false ∷ bits u.later
+  pub seen : s.row.bits ≡ false ∷ bits u.later
 
 abbrev pub Outcome : Train → Result Sound Fault → Type 0
 Outcome u (Ok s) = Tells s u
@@ -47,7 +46,7 @@ pub record Follows (s : Sound) (x : TimedPulse) (s' : Sound) : Type 0 where
   pub many : s'.count ≡ s.count + 1
   pub at : s'.t ≡ x.t
   pub side : s'.polarity ≡ x.polarity
-  pub seen : row_bits s'.row ≡ more_bits s'.slot x.polarity (row_bits s.row)
+  pub seen : s'.row.bits ≡ more_bits s'.slot x.polarity s.row.bits
 
 abbrev pub AsKind : {Record : Type 0} → ℕ → (List Bool → Record) → Train → Result Record Fault → Type 0
 AsKind size record_of u (Ok r) = CleanAs size u × (r ≡ record_of (row size u))
@@ -56,6 +55,6 @@ AsKind size record_of u (Err f) = verdict (kind_good size) u ≡ faulty f
 abbrev pub ToldAsKind : {Record : Type 0} → ℕ → (List Bool → Record) → Sound → Result Record Fault → Type 0
 ToldAsKind size record_of s r = (u : Train) → Tells s u → AsKind size record_of u r
 
-abbrev pub Rested : ℕ → Sound → Option Cause → Type 0
-Rested size s (Some c) = (u : Train) → Tells s u → verdict (kind_good size) u ≡ faulty (fault c s.count s.t)
-Rested size s None = (u : Train) → Tells s u → CleanAs size u × (row_bits s.row ≡ row size u)
+abbrev pub Rested : {A : Type 0} → ℕ → Sound → Result A Cause → Type 0
+Rested size s (Ok x) = (u : Train) → Tells s u → CleanAs size u × (s.row.bits ≡ row size u)
+Rested size s (Err c) = (u : Train) → Tells s u → verdict (kind_good size) u ≡ faulty (fault c s.count s.t)

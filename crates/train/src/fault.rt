@@ -16,6 +16,7 @@ pub enum Cause {
 
 /// A fault as plain numbers: the number of its cause, the number of the pulse in its train, from 1, and that pulse's ticks
 /// after the first.
+// A number and no enum: reports hold plain numbers, by a rule of the project.
 #[derive(Clone, Copy, PartialEq, Eq, Debug)]
 pub struct Fault {
     pub cause: u16,
@@ -25,6 +26,7 @@ pub struct Fault {
 
 impl Cause {
     /// The number of the cause: 1 start, 2 timing, 3 alternation, 4 no information, 5 end bit, 6 parity, 7 length.
+    // A name and no `From`: it says which number.
     pub fn number(self) -> u16
         ensures { result ≡ number self }
     {

@@ -1,9 +1,7 @@
 //! Trains of pulses: the slots that their pulses are in, the checks, and the reading of a whole train as one kind of telegram.
 #![tactic(auto)]
 
-mod checks;
 pub mod fault;
-mod laws;
 pub mod pulse;
 pub mod reader;
 pub mod sound;

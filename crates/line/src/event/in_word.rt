@@ -7,6 +7,7 @@ use crate::event::{Height, Polarity};
 
 impl Height {
     // The height in the low 13 bits of a word.
+    // No `From`: it would say that a word is a height, and no word is.
     pub(crate) fn in_word(word: u32) -> Height
         ensures { result.mv ≡ level word }
     {
@@ -18,13 +19,10 @@ impl Height {
 
 impl Polarity {
     // The polarity in bit 29 of a word.
+    // No `From`, as for heights.
     pub(crate) fn in_word(word: u32) -> Polarity
         ensures { sign result ≡ side word }
     {
-        if low_bits(word >> 29, 1) == 1 {
-            Polarity::Positive
-        } else {
-            Polarity::Negative
-        }
+        Polarity::from(low_bits(word >> 29, 1) == 1)
     }
 }

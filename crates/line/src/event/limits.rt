@@ -11,17 +11,21 @@ const HIGHEST: u16 = 8191;
 // The most ticks of one quiet.
 const LONGEST: u32 = 1_073_741_823;
 
-impl Height {
-    /// The height of `mv` millivolts, refused by 1 above 8,191.
-    pub fn new(mv: u16) -> Result<Height, Refusal>
-        ensures { HeightMade mv result }
-    {
+/// The height of so many millivolts, refused by 1 above 8,191.
+impl TryFrom<u16> for Height {
+    type Error = Refusal;
+
+    ghost try_from_gives = { HeightMade };
+
+    fn try_from(mv: u16) -> Result<Height, Refusal> {
         if mv > HIGHEST {
             return Err(Refusal::HeightOutOfRange);
         }
         Ok(Height { mv })
     }
+}
 
+impl Height {
     /// The height in millivolts.
     pub fn mv(self) -> u16
         ensures { result ≡ self.mv }
@@ -30,17 +34,21 @@ impl Height {
     }
 }
 
-impl Ticks {
-    /// `count` ticks, refused by 2 outside 1 to 1,073,741,823.
-    pub fn new(count: u32) -> Result<Ticks, Refusal>
-        ensures { TicksMade count result }
-    {
+/// So many ticks, refused by 2 outside 1 to 1,073,741,823.
+impl TryFrom<u32> for Ticks {
+    type Error = Refusal;
+
+    ghost try_from_gives = { TicksMade };
+
+    fn try_from(count: u32) -> Result<Ticks, Refusal> {
         if count < 1 || count > LONGEST {
             return Err(Refusal::TicksOutOfRange);
         }
         Ok(Ticks { count })
     }
+}
 
+impl Ticks {
     /// The number of ticks.
     pub fn count(self) -> u32
         ensures { result ≡ self.count }

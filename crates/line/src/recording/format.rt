@@ -5,10 +5,11 @@ ghost use Rattle.line.specs.Words.{Says, fault};
 use crate::bits::low_bits;
 use crate::ending::LineFault;
 use crate::event::{Event, Height, Polarity, Ticks};
-use crate::recording::{Flaw, Word};
+use crate::recording::Flaw;
 
 impl Flaw {
     // The flaw as a line's fault at the word of number `place`.
+    // No `From`: a flaw alone has no place.
     pub(crate) fn at(self, place: usize) -> LineFault
         ensures { result ≡ fault self place }
     {
@@ -26,29 +27,21 @@ impl Flaw {
     }
 }
 
-// What `word` says as the word of number `place`.
-pub(crate) fn read_word(place: usize, word: u32) -> Word
+// What `word` says as the word of number `place`: an event, that the line ends here, or a flaw.
+pub(crate) fn read_word(place: usize, word: u32) -> Result<Option<Event>, Flaw>
     ensures { Says place word result }
 {
     match word >> 30 {
-        0 => match Ticks::new(low_bits(word, 30)) {
-            Ok(ticks) => Word::Heard(Event::Quiet(ticks)),
-            Err(_) => Word::Bad(Flaw::EmptyQuiet),
+        0 => match Ticks::try_from(low_bits(word, 30)) {
+            Ok(ticks) => Ok(Some(Event::Quiet(ticks))),
+            Err(_) => Err(Flaw::EmptyQuiet),
         },
-        1 => {
-            if low_bits(word >> 13, 16) == 0 {
-                Word::Heard(Event::Pulse(Polarity::in_word(word), Height::in_word(word)))
-            } else {
-                Word::Bad(Flaw::UsedSpareBits)
-            }
+        1 if low_bits(word >> 13, 16) == 0 => {
+            Ok(Some(Event::Pulse(Polarity::in_word(word), Height::in_word(word))))
         }
-        2 => {
-            if low_bits(word, 30) as usize == place {
-                Word::End
-            } else {
-                Word::Bad(Flaw::WrongCount)
-            }
-        }
-        _ => Word::Bad(Flaw::UnknownKind),
+        1 => Err(Flaw::UsedSpareBits),
+        2 if low_bits(word, 30) as usize == place => Ok(None),
+        2 => Err(Flaw::WrongCount),
+        _ => Err(Flaw::UnknownKind),
     }
 }

@@ -4,11 +4,13 @@ ghost use Rattle.telegram.specs.Records.{AnswerMade};
 use crate::answer::Answer;
 use crate::refusal::Refusal;
 
-impl Answer {
-    /// The answer with this nibble, refused by 9 above 15.
-    pub fn new(nibble: u16) -> Result<Answer, Refusal>
-        ensures { AnswerMade nibble result }
-    {
+/// The answer with this nibble, refused by 9 above 15.
+impl TryFrom<u16> for Answer {
+    type Error = Refusal;
+
+    ghost try_from_gives = { AnswerMade };
+
+    fn try_from(nibble: u16) -> Result<Answer, Refusal> {
         if nibble < 16 {
             Ok(Answer {
                 nibble: nibble as u8,

@@ -1,20 +1,12 @@
 //! The row of a request, and the request in a row.
-ghost use Rattle.std.specs.Prelude.{◌≡◌};
-ghost use Rattle.telegram.specs.Records.{SameFields, request_record, request_row};
-ghost use Rattle.telegram.specs.Rows.{row_bits};
+ghost use Rattle.telegram.specs.Records.{request_record, request_row};
 ghost use Rattle.telegram.specs.Frames.{request_even, request_back, request_forth};
 ghost use Rattle.std.proofs.Common.{rules};
 
-use crate::bits::{bit, parity};
+use crate::bits::bit;
 use crate::kind::Kind;
 use crate::request::Request;
 use crate::row::Row;
-
-// A request is its fields: one with the fields of a row is the request in that row.
-fn one_request(request: &Request, row: &Row)
-    requires { SameFields request.now (request_record (row_bits row.now)) }
-    ensures { request.now ≡ request_record (row_bits row.now) }
-{}
 
 /// The kind of requests: 14 bits.
 #[derive(Clone, Copy)]
@@ -23,7 +15,9 @@ pub struct Requests;
 impl Kind for Requests {
     type Record = Request;
 
-    ghost size = { 14 };
+    const BITS: usize = 14;
+
+    ghost BITS = { 14 };
 
     ghost row_of = { request_row };
 
@@ -43,10 +37,6 @@ impl Kind for Requests {
 
     ghost forth = { request_forth };
 
-    fn bits() -> usize {
-        14
-    }
-
     fn row(telegram: &Request) -> Row {
         let c = telegram.control;
         let (a, i) = (telegram.address, telegram.information);
@@ -63,22 +53,14 @@ impl Kind for Requests {
             bit(i, 1),
             bit(i, 0),
         ];
-        let p = parity(&f);
-        Row {
-            bits: [
-                false, f[0], f[1], f[2], f[3], f[4], f[5], f[6], f[7], f[8], f[9], f[10], p, true,
-            ],
-            count: 14,
-        }
+        Row::framed(&f)
     }
 
     fn record(row: &Row) -> Request {
-        let request = Request {
+        Request {
             control: row.field(1, 1),
             address: row.field(2, 5),
             information: row.field(7, 5),
-        };
-        one_request(&request, row);
-        request
+        }
     }
 }

@@ -6,6 +6,7 @@ use crate::request::Request;
 
 impl Request {
     /// The request with these fields, refused by 9 if one of them is out of its range.
+    // No `TryFrom`: three numbers are no value of their own.
     pub fn new(control: u16, address: u16, information: u16) -> Result<Request, Refusal>
         ensures { RequestMade control address information result }
     {

@@ -1,13 +1,17 @@
 //! How a row is begun and grows.
 ghost use Rattle.std.specs.Prelude.{◌≡◌, []};
-ghost use Rattle.telegram.specs.Rows.{Pushed, row_bits};
+ghost use Rattle.telegram.specs.Rows.{Pushed};
 
 use crate::row::Row;
+
+/// A row has no room for one bit more.
+#[derive(Clone, Copy, PartialEq, Eq, Debug)]
+pub struct Full;
 
 impl Row {
     /// A row with no bits yet.
     pub fn new() -> Row
-        ensures { row_bits result ≡ [] }
+        ensures { result.bits ≡ [] }
     {
         Row {
             bits: [false; 14],
@@ -15,15 +19,15 @@ impl Row {
         }
     }
 
-    /// Adds `bit` at the end and answers true; a row of 14 bits stays as it is, and the answer is false.
-    pub fn push(&mut self, bit: bool) -> bool
-        ensures { Pushed (row_bits self.old) bit result (row_bits self.new) }
+    /// Adds `bit` at the end; a row of 14 bits is full and stays as it is.
+    pub fn push(&mut self, bit: bool) -> Result<(), Full>
+        ensures { Pushed self.old.bits bit result self.new.bits }
     {
         if self.count == 14 {
-            return false;
+            return Err(Full);
         }
         self.bits[self.count] = bit;
         self.count += 1;
-        true
+        Ok(())
     }
 }

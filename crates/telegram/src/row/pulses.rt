@@ -1,50 +1,32 @@
 //! The pulses of a row.
 ghost use Rattle.std.specs.Prelude.{◌≡◌, ◌≤◌, OnSome};
-ghost use Rattle.telegram.specs.Coding.{Coded, gap, held, polarity, slots};
-ghost use Rattle.telegram.specs.Rows.{row_bits};
+ghost use Rattle.telegram.specs.Coding.{Coded, gap, held, slots};
 
 use crate::row::Row;
 use line::event::Polarity;
-
-// The polarity of a bit's pulse.
-fn polarity_of(bit: bool) -> Polarity
-    ensures { result ≡ polarity bit }
-{
-    if bit {
-        Polarity::Positive
-    } else {
-        Polarity::Negative
-    }
-}
 
 // What the slot between the pulses of two neighbouring bits holds.
 fn gap(a: bool, b: bool) -> Option<Polarity>
     ensures { result ≡ gap a b }
 {
     if a == b {
-        Some(polarity_of(a).opposite())
+        Some(Polarity::from(a).opposite())
     } else {
         None
     }
 }
 
-// The slots of a row hold what the coding says of each.
-fn coding_stands(row: &Row)
-    ensures { Coded (row_bits row.now) }
-{}
-
 impl Row {
-    /// What the slot of this number holds when the row is sent: a pulse of some polarity, or none.
-    pub fn pulse_in(&self, slot: usize) -> Option<Polarity>
-        ensures value { result ≡ held (slots (row_bits self.now)) slot }
-        ensures coding { Coded (row_bits self.now) }
+    // What the slot of this number holds: an even one the pulse of its bit, an odd one what the bits on both sides of it make.
+    #[tactic(auto, using(crate::proofs::Coding::slots_bit, crate::proofs::Coding::slots_gap, crate::proofs::Coding::slots_past))]
+    fn held_in(&self, slot: usize) -> Option<Polarity>
+        ensures value { result ≡ held (slots self.now.bits) slot }
         ensures low { OnSome result (slot ≤ 26) }
     {
-        coding_stands(self);
         let k = slot / 2;
         if slot % 2 == 0 {
             if k < self.len() {
-                Some(polarity_of(self.bit(k)))
+                Some(Polarity::from(self.bit(k)))
             } else {
                 None
             }
@@ -53,5 +35,14 @@ impl Row {
         } else {
             None
         }
+    }
+
+    /// What the slot of this number holds when the row is sent: a pulse of some polarity, or none.
+    pub fn pulse_in(&self, slot: usize) -> Option<Polarity>
+        ensures value { result ≡ held (slots self.now.bits) slot }
+        ensures coding { Coded self.now.bits }
+        ensures low { OnSome result (slot ≤ 26) }
+    {
+        self.held_in(slot)
     }
 }

@@ -1,11 +1,10 @@
 //! How a sender hands over.
 ghost use Rattle.std.specs.Prelude.{◌≡◌, ◌*◌, ◌≤◌, Ok};
-ghost use Rattle.line.specs.declared.ending.Ending.TheVariants.{Dry};
 ghost use Rattle.line.specs.declared.event.Event.TheVariants.{Quiet};
+ghost use Rattle.line.specs.Endings.{dry};
 ghost use Rattle.line.specs.Events.{ticks};
 ghost use Rattle.line.specs.Lines.{Took};
-ghost use Rattle.telegram.specs.Handing.{Next, waiting};
-ghost use Rattle.telegram.specs.Rows.{row_bits};
+ghost use Rattle.telegram.specs.Handing.{Next};
 ghost use Rattle.telegram.specs.Sending.{slot_ticks};
 
 use crate::kind::Kind;
@@ -15,13 +14,13 @@ use line::ending::LineFault;
 use line::event::{Event, Ticks};
 use line::line::Line;
 
-// The ticks of a slot.
-const SLOT_TICKS: u32 = 24;
+/// The ticks of a slot.
+pub const SLOT_TICKS: u32 = 24;
 
 // The way from slot `slot` of the row to its next pulse, if there is one more.
 fn next_pulse(row: &Row, slot: usize) -> Option<Step>
     requires { slot ≤ 26 }
-    ensures { Next slot (row_bits row.now) result }
+    ensures { Next slot row.now.bits result }
 {
     match row.pulse_in(slot + 1) {
         Some(polarity) => Some(Step { slots: 1, polarity }),
@@ -37,13 +36,13 @@ fn quiet(slots: usize) -> Event
     requires { (1 ≤ slots) × (slots ≤ 2) }
     ensures { result ≡ Quiet (ticks (slot_ticks * slots)) }
 {
-    Event::Quiet(Ticks::new(SLOT_TICKS * slots as u32).unwrap())
+    Event::Quiet(Ticks::try_from(SLOT_TICKS * slots as u32).unwrap())
 }
 
 impl<K: Kind> Sender<K> {
     /// Hands over the next event, or none where all were; it never breaks.
     pub fn hand_over(&mut self) -> Option<Event>
-        ensures { Took (waiting self.old.height self.old.closing self.old.due self.old.at (K.Kind.row_of self.old.telegram)) Dry (Ok result) (waiting self.new.height self.new.closing self.new.due self.new.at (K.Kind.row_of self.new.telegram)) Dry }
+        ensures { Took self.old.waits dry (Ok result) self.new.waits dry }
     {
         match self.due {
             Due::Pulse(polarity) => {
@@ -67,9 +66,9 @@ impl<K: Kind> Sender<K> {
 }
 
 impl<K: Kind> Line for Sender<K> {
-    ghost waits = { λ s. waiting s.height s.closing s.due s.at (K.Kind.row_of s.telegram) };
+    ghost waits = { λ s. s.waits };
 
-    ghost ending = { λ s. Dry };
+    ghost ending = { λ s. dry };
 
     fn take(&mut self) -> Result<Option<Event>, LineFault> {
         Ok(self.hand_over())

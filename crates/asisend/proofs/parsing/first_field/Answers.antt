@@ -1,14 +1,14 @@
 -- Without a space, or without a number before the first, there is no field.
-use Rattle.std.proofs.Common.{refl}
-use Rattle.std.proofs.lemmas.Result.{err_from_is_err_and}
+use Rattle.std.proofs.Common.{rules}
+use Rattle.asisend.specs.Cutting.{Cuts}
 use Rattle.asisend.proofs.Plainly.{no_number, no_space}
 use Rattle.asisend.proofs.parsing.first_field.Goals as goal
 
-pub returns-in_err-read-in-Some : goal.returns-in_err-read-in-Some
-returns-in_err-read-in-Some c =
-    let p = err_from_is_err_and c.from_residual.result c.from_residual.ensures.1 in
-    let not = c.in_err-read-in-Some.ensures in
-    rw (p.1, p.2) (no_number c.args.bytes.now _ _ c.in-Some.ensures not.0, not.1)
+pub returns-in_err-read : goal.returns-in_err-read
+returns-in_err-read c =
+    let cuts : Cuts 32 c.args.bytes.now c.in_ok-parts.parts.front.now c.in_ok-parts.parts.back.now = search rules in
+    let none = no_number _ _ _ cuts c.in_err-read.ensures.0 in
+    search rules
 
-pub returns-in-None : goal.returns-in-None
-returns-in-None c = (no_space c.args.bytes.now c.in-None.ensures, refl)
+pub returns-in_err-parts : goal.returns-in_err-parts
+returns-in_err-parts c = let none = no_space c.args.bytes.now (search rules) in search rules

@@ -1,23 +1,22 @@
--- A good line moves from what is left to what was read, and what stands after a line is shorter than what it began.
-use Rattle.std.proofs.Common.{◌≡◌, ◌<◌, length, vec_items, sym, subst, rules}
-use Rattle.asisend.specs.Scripts.{Begins}
-use Rattle.asisend.proofs.Cuts.{less_left}
-use Rattle.asisend.proofs.Texts.{all_read, command_more}
+-- Each part holds the first line of what is left.
+use Rattle.std.proofs.Common.{◌==◌, rules, tests, arith}
+use Rattle.std.proofs.lemmas.Fn.{always_returns_same}
+use Rattle.std.proofs.lemmas.Grind.{common_steps}
+use Rattle.std.proofs.lemmas.Result.{err_from_is_err_and}
+use Rattle.asisend.proofs.Cuts.{first_part}
+use Rattle.asisend.proofs.Texts.{not_read}
 use Rattle.asisend.proofs.script.read_commands.Goals as goal
 
-pub loop-rest-smaller : goal.loop-rest-smaller
-loop-rest-smaller c =
-    let some : 0 < length c.loop-rest.rest.now = search rules in
-    less_left _ _ _ c.first_line-parts.ensures some
+pub returns-in_err-read_line : goal.returns-in_err-read_line
+returns-in_err-read_line c =
+    let cut = c.in-Some.ensures.steps in
+    let first = first_part _ _ _ c.line_in.result.now cut.1.0 cut.0 cut.1.1 (cut.1.2 (λ b. b == 10) (always_returns_same _ _ _ (λ a r f k. search (rules, tests)))).1 c.line_in.ensures in
+    let p = err_from_is_err_and c.from_residual.result c.from_residual.ensures.1 in
+    rw (p.1, p.2) (not_read _ _ _ _ _ _ c.loop-part.invariant cut.2 first c.in_err-read_line.ensures)
 
-pub loop-rest-preserved : goal.loop-rest-preserved
-loop-rest-preserved c =
-    let some : 0 < length c.loop-rest.rest.now = search rules in
-    let t = c.args.text.now in
-    let more = command_more t (vec_items c.loop-rest.commands) c.loop-rest.rest.now c.first_line-parts.result.front.now c.first_line-parts.result.back.now c.in-Ok.command c.loop-rest.invariant some c.first_line-parts.ensures c.in-Ok.ensures in
-    subst (λ l. Begins t l c.first_line-parts.result.back.now) (sym c.in_ok-push-in-Ok.ensures.items) more
-
-pub returns : goal.returns
-returns c =
-    let none : length c.loop-rest.rest.now ≡ 0 = search rules in
-    all_read c.args.text.now (vec_items c.loop-rest.commands) c.loop-rest.rest.now c.loop-rest.invariant none
+pub loop-part-preserved : goal.loop-part-preserved
+loop-part-preserved c =
+    let cut = c.in-Some.ensures.steps in
+    let first = first_part _ _ _ c.line_in.result.now cut.1.0 cut.0 cut.1.1 (cut.1.2 (λ b. b == 10) (always_returns_same _ _ _ (λ a r f k. search (rules, tests)))).1 c.line_in.ensures in
+    let added = c.in_ok-read_line.ensures in
+    grind (arith, common_steps)

@@ -1,7 +1,7 @@
 -- One bit more turns the parity of the sum if it is 1.
 use Rattle.std.proofs.Common.{false, not, get_or, sym, ap, ◌∙◌}
 use mathlib.Core.Bool.{beq}
-use Rattle.std.proofs.lemmas.List.{take_all, take_more}
+use Rattle.std.proofs.lemmas.List.{take_more}
 use Rattle.telegram.specs.Bits.{odd}
 use Rattle.telegram.specs.Numbers.{odd-push}
 use Rattle.telegram.proofs.bits.parity.Goals as goal
@@ -11,6 +11,3 @@ loop-bit-preserved c =
     let i = c.loop-bit.bit-index in
     let bits = c.args.bits.now in
     ap (λ o. not (beq o (get_or bits i false))) c.loop-bit.invariant ∙ sym (ap odd (take_more bits i false c.loop-bit-test.true) ∙ odd-push _ _)
-
-pub returns : goal.returns
-returns c = c.loop-bit.invariant ∙ ap odd (take_all _ _ c.loop-bit-test.false)

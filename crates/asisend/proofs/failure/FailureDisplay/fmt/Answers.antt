@@ -1,8 +1,5 @@
--- Each failure's text is what is written.
+-- The text of a bad line is what is written.
 use Rattle.asisend.proofs.failure.FailureDisplay.fmt.Goals as goal
-
-pub returns-in-TooLong-clause-writes : goal.returns-in-TooLong-clause-writes
-returns-in-TooLong-clause-writes g c = rw c.in-TooLong.is c.write-in-TooLong.ensures.writes
 
 pub returns-in-BadLine-clause-writes : goal.returns-in-BadLine-clause-writes
 returns-in-BadLine-clause-writes g c = rw (c.in-BadLine.is, ← c.number-number.ensures) c.write-in-BadLine.ensures.writes
