@@ -11,7 +11,7 @@ use line::words;
 use std::alloc::{AllocError, Global};
 use std::fmt;
 
-// As many words as 65,536 bytes hold. A fixed room with a count, as the bytes have: only the text needs memory.
+// As many words as 65,536 bytes hold. A fixed room with a count: `from_bytes` writes into a room of its caller's.
 const ROOM: usize = 16384;
 
 // The lines of a listing so far.

@@ -1,46 +1,24 @@
 //! Examples of what the program reads and lists.
 use crate::listing;
-use std::alloc::Global;
 use std::process::Abort;
 use std::test::Fail;
 
 // The listing of `words` is just `expected`.
-fn lists(rt: &impl Abort, heap: Global, words: &[u32], expected: &str) -> Result<(), Fail> {
-    let text = listing::list_words(heap, words)?;
+fn lists(rt: &(impl Abort + AllocGlobal), words: &[u32], expected: &str) -> Result<(), Fail> {
+    let text = listing::list_words(rt.alloc(), words)?;
     assert_eq!(rt; text.as_str(), expected);
     Ok(())
 }
 
 #[test]
 fn events_and_endings_as_text(rt: HostRuntime) -> Result<(), Fail> {
-    let heap = rt.alloc();
-    lists(&rt, heap, &[0x8000_0000], "end\n")?;
-    lists(
-        &rt,
-        heap,
-        &[0x4000_1fff, 0x8000_0001],
-        "pulse - 8191\nend\n",
-    )?;
-    lists(
-        &rt,
-        heap,
-        &[0x6000_0000, 0xc000_0000],
-        "pulse + 0\nbroken 4 1\n",
-    )?;
-    lists(
-        &rt,
-        heap,
-        &[0x3fff_ffff, 0],
-        "quiet 1073741823\nbroken 5 1\n",
-    )?;
-    lists(
-        &rt,
-        heap,
-        &[1, 1, 0x4000_2000],
-        "quiet 1\nquiet 1\nbroken 6 2\n",
-    )?;
-    lists(&rt, heap, &[], "broken 7 0\n")?;
-    lists(&rt, heap, &[0x8000_0001], "broken 8 0\n")
+    lists(&rt, &[0x8000_0000], "end\n")?;
+    lists(&rt, &[0x4000_1fff, 0x8000_0001], "pulse - 8191\nend\n")?;
+    lists(&rt, &[0x6000_0000, 0xc000_0000], "pulse + 0\nbroken 4 1\n")?;
+    lists(&rt, &[0x3fff_ffff, 0], "quiet 1073741823\nbroken 5 1\n")?;
+    lists(&rt, &[1, 1, 0x4000_2000], "quiet 1\nquiet 1\nbroken 6 2\n")?;
+    lists(&rt, &[], "broken 7 0\n")?;
+    lists(&rt, &[0x8000_0001], "broken 8 0\n")
 }
 
 #[test]

@@ -7,7 +7,7 @@ use line::event::{Event, Polarity};
 use std::fmt;
 
 /// What one line of a listing shows.
-// A type for it: a crate may print only types of its own, and these two are of the library.
+// A type for it: a crate may print only types of its own, and these two are of another crate.
 #[derive(Clone, Copy)]
 pub enum Item {
     Event(Event),

@@ -21,6 +21,7 @@ pub enum Failure {
     BadLine(usize, Refusal),
 }
 
+// Two conversions: the library has two errors for want of memory, and they convert to no common one here.
 impl From<AllocError> for Failure {
     ghost from_gives = { λ _ r. r ≡ Memory };
 

@@ -16,7 +16,8 @@ mod recording;
 mod script;
 mod sending;
 
-// Room for the longest text and one byte more, by which a longer one shows. A fixed buffer with a count, as the project has them.
+// Room for the longest text and one byte more, by which a longer one shows.
+// A count beside a fixed buffer: a rule of the project gives a program such a buffer.
 const ROOM: usize = sending::LONGEST + 1;
 
 fn run(rt: &HostRuntime) -> anyhow::Result<()> {

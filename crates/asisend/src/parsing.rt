@@ -61,6 +61,7 @@ fn after<'a>(line: &'a [u8], name: &[u8]) -> Option<&'a [u8]>
 
 /// The command that `line` writes. Refused by 9 if the line has neither form or a field is out of its range, else by 10 if
 /// the closing quiet is.
+// A function and no `TryFrom`: bytes are no command by themselves, only as a line of this text.
 #[tactic(auto, using(crate::proofs::Shapes::request_line, crate::proofs::Shapes::answer_line))]
 pub fn parse(line: &[u8]) -> Result<Command, Refusal>
     ensures { LineRead line.now result }

@@ -1,5 +1,5 @@
 //! The words of a recording.
-ghost use Rattle.std.specs.Prelude.{◌≡◌, ◌^◌, ◌<◌, ◌≤◌, [], ◌∷◌, MatchResult, OnOk};
+ghost use Rattle.std.specs.Prelude.{◌≡◌, ◌^◌, ◌<◌, [], ◌∷◌, MatchResult, OnOk};
 ghost use Rattle.asisend.specs.Recording.{EventsPushed, Recording, command_events, end_word, row_events, script_events};
 ghost use Rattle.asisend.specs.Scripts.{RecordFailed};
 ghost use Rattle.line.specs.Words.{word_of};
@@ -32,7 +32,7 @@ fn word_of(event: Event) -> u32
                 Polarity::Negative => 0x4000_0000,
                 Polarity::Positive => 0x6000_0000,
             };
-            pulse + height.mv() as u32
+            pulse + u32::from(height.mv())
         }
         Event::Quiet(ticks) => ticks.count(),
     }
@@ -93,13 +93,13 @@ fn end_word(count: usize) -> u32
 pub fn record(heap: Global, commands: &[Command]) -> Result<Vec<u32>, Failure>
     ensures { MatchResult result (λ v. Recording (script_events commands.now) v.items) (λ e. RecordFailed (script_events commands.now) e) }
 {
-    let mut words = Words {
+    let mut sink = Words {
         list: Vec::new(heap),
     };
     for command in commands {
-        push_command(command, &mut words)?;
+        push_command(command, &mut sink)?;
     }
-    let mut words = words.list;
+    let mut words = sink.list;
     if words.len() >= TOO_MANY {
         return Err(Failure::TooManyWords);
     }

@@ -18,6 +18,5 @@ pub fn send(heap: Global, text: &[u8]) -> Result<Vec<u8>, Failure>
     }
     let commands = script::read_commands(heap, text)?;
     let words = recording::record(heap, commands.as_slice())?;
-    let bytes = bytes::from_words(heap, words.as_slice())?;
-    Ok(bytes)
+    Ok(bytes::from_words(heap, words.as_slice())?)
 }

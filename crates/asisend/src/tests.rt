@@ -4,17 +4,13 @@ use crate::sending::send;
 use std::alloc::Global;
 use std::process::Abort;
 use std::test::Fail;
+use telegram::refusal::Refusal;
 
 // Each line is refused by `number`, or is good where that is none.
 fn all_refused(rt: &impl Abort, lines: &[&str], number: Option<u8>) {
     for line in lines {
         let refusal = parse(line.as_bytes()).err();
-        assert_eq!(rt;
-            refusal.map(|refusal| refusal.number()),
-            number,
-            "{}",
-            *line
-        );
+        assert_eq!(rt; refusal.map(Refusal::number), number, "{}", *line);
     }
 }
 
@@ -133,27 +129,25 @@ fn outcome(heap: Global, text: &[u8]) -> Result<String, Fail> {
     }
 }
 
-fn ends(rt: &impl Abort, heap: Global, text: &str, expected: &str) -> Result<(), Fail> {
-    let told = outcome(heap, text.as_bytes())?;
+fn ends(rt: &(impl Abort + AllocGlobal), text: &str, expected: &str) -> Result<(), Fail> {
+    let told = outcome(rt.alloc(), text.as_bytes())?;
     assert_eq!(rt; told.as_str(), expected, "{}", text);
     Ok(())
 }
 
 #[test]
 fn the_first_bad_line_is_told(rt: HostRuntime) -> Result<(), Fail> {
-    let heap = rt.alloc();
-    ends(&rt, heap, "answer 5 100\nanswer 5 100", "done")?;
-    ends(&rt, heap, "\n", "line 1: refused by 9")?;
-    ends(&rt, heap, "answer 5 100\n\n", "line 2: refused by 9")?;
+    ends(&rt, "answer 5 100\nanswer 5 100", "done")?;
+    ends(&rt, "\n", "line 1: refused by 9")?;
+    ends(&rt, "answer 5 100\n\n", "line 2: refused by 9")?;
     ends(
         &rt,
-        heap,
         "answer 5 100\nanswer 5 71\nx\n",
         "line 2: refused by 10",
     )?;
-    ends(&rt, heap, "x\nanswer 5 71\n", "line 1: refused by 9")?;
-    ends(&rt, heap, "answer 5 100\r\n", "line 1: refused by 9")?;
-    ends(&rt, heap, "\nanswer 5 100\n", "line 1: refused by 9")
+    ends(&rt, "x\nanswer 5 71\n", "line 1: refused by 9")?;
+    ends(&rt, "answer 5 100\r\n", "line 1: refused by 9")?;
+    ends(&rt, "\nanswer 5 100\n", "line 1: refused by 9")
 }
 
 #[test]

@@ -1,8 +1,7 @@
 -- The words of a list of bytes, by their numbers.
-use Rattle.std.proofs.Common.{◌≡◌, ℕ, zero, suc, ◌+◌, ◌*◌, ◌/◌, ◌<◌, min, List, [], length, refl, get_or, take, drop, sym, ap, ◌∙◌, inl, inr, zero-add, arith}
+use Rattle.std.proofs.Common.{◌≡◌, ℕ, zero, suc, ◌+◌, ◌*◌, ◌/◌, ◌<◌, min, List, [], length, refl, get_or, take, drop, ap, ◌∙◌, zero-add, arith}
 use Rattle.std.proofs.lemmas.List.FromFn.{length-map-range_with_len, get_or-map-range_with_len}
-use Rattle.std.proofs.lemmas.List.{length-take, drop-drop, get_or-drop, get_or-take, take_all, take_at}
-use Rattle.std.proofs.lemmas.Bool.{cases_lt}
+use Rattle.std.proofs.lemmas.List.{length-take, drop-drop, get_or-drop, get_or-take, take_at, take_min}
 use Rattle.std.specs.Simd.{first_chunks}
 use Rattle.line.specs.Bytes.{Packed, word_at, words_of}
 
@@ -32,19 +31,12 @@ four bs k =
 pub chunk_word : (bs : List ℕ) (m n k : ℕ) → k < m → k < n → word_at (get_or (take m (first_chunks 4 n bs)) k []) 0 ≡ word_at bs k
 chunk_word bs m n k h l = ap (λ c. word_at c 0) (get_or-take m (first_chunks 4 n bs) k [] h ∙ chunk_at n k bs [] l) ∙ four bs k
 
-take_min : {X : Type 0} (xs : List X) (m : ℕ) → take (min (length xs) m) xs ≡ take m xs
-take_min xs m =
-    elim (cases_lt m (length xs)) [
-      | inl h ↦ ap (λ k. take k xs) (omega arith)
-      | inr h ↦ take_all _ xs (omega arith) ∙ sym (take_all m xs h)
-    ]
-
 -- what was written, taken again, is all words as far as there was room
 pub written_words : (bs ws ws' : List ℕ) (n : ℕ) → Packed bs ws n ws' → take n ws' ≡ take (length ws) (words_of bs)
 written_words bs ws ws' n p =
     let c = p.count in
     let W = words_of bs in
     let many = length-words_of bs in
-    let same : n ≡ min (length W) (length ws) = omega arith in
+    let same : n ≡ min (length ws) (length W) = omega arith in
     let long : length (take n W) ≡ n = length-take n W ∙ omega arith in
-    ap (take n) p.after ∙ take_at (take n W) (drop n ws) n long ∙ ap (λ k. take k W) same ∙ take_min W (length ws)
+    ap (take n) p.after ∙ take_at (take n W) (drop n ws) n long ∙ ap (λ k. take k W) same ∙ take_min (length ws) W

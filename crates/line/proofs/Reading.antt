@@ -1,7 +1,6 @@
 -- One word more of a recording: what is left from word i on begins with what word i says.
-use Rattle.std.proofs.Common.{◌≡◌, ℕ, ◌+◌, ◌<◌, ◌≤◌, List, length, get_or, sym, ap, ◌∙◌, Ok, Err}
-use Rattle.std.proofs.lemmas.List.{at_drop_more, at_drop_all}
-use Rattle.line.specs.declared.recording.Flaw.TheVariants.{NoEnd}
+use Rattle.std.proofs.Common.{◌≡◌, ℕ, ◌+◌, ◌<◌, List, length, get_or, sym, ap, ◌∙◌, Ok, Err}
+use Rattle.std.proofs.lemmas.List.{at_drop_more}
 use Rattle.line.specs.Decoding.{Begins, Content, Stands, content, decoded, from, then}
 use Rattle.line.specs.Words.{Says, Word}
 use Rattle.line.proofs.Decoded.{says_decoded}
@@ -17,6 +16,3 @@ pub begins_more : (ws : List ℕ) (i w : ℕ) (x : Word) → i < length ws → w
 begins_more ws i w x within is says =
     begins i ws x (stands i (length ws) x within)
     (at_drop_more (content i) ws i w within ∙ ap (λ k. then k i (from (i + 1) ws)) (ap (decoded i) (sym is) ∙ says_decoded i w x says))
-
-pub begins_none : (ws : List ℕ) (i : ℕ) → length ws ≤ i → Begins i ws (Err NoEnd)
-begins_none ws i out = begins i ws (Err NoEnd) tt (at_drop_all (content i) ws i out)

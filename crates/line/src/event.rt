@@ -15,14 +15,14 @@ pub enum Polarity {
 }
 
 /// The height of a pulse in millivolts: 0 to 8,191.
-#[derive(Clone, Copy, PartialEq, Eq, Debug)]
+#[derive(Clone, Copy, PartialEq, Eq, PartialOrd, Ord, Debug)]
 pub struct Height {
     mv: u16,
     ghost low: { mv ≤ highest },
 }
 
 /// The length of a quiet in ticks of 125 ns: 1 to 1,073,741,823.
-// A type of its own and none over any limits: height and ticks are refused and read under other names.
+// Two types, and no one type with its limits as parameters: each has a refusal and a reader by its own name.
 #[derive(Clone, Copy, PartialEq, Eq, Debug)]
 pub struct Ticks {
     count: u32,

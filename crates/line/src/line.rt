@@ -13,6 +13,7 @@ pub trait Line {
     ghost waits: { Self → List Event };
 
     /// How the line ends once none waits.
+    // Two members and no pair: what waits changes with each event that is taken, the ending never does.
     ghost ending: { Self → Ending };
 
     /// Hands over the next event; where none waits, reports the ending, and goes on doing so.

@@ -27,14 +27,11 @@ pub trait Sink {
 pub fn pour<L: Line, S: Sink>(line: &mut L, sink: &mut S) -> Result<Ending, S::Error>
     ensures { IfOk result (λ end. Poured L.Line.waits L.Line.ending S.Sink.kept_as line.old (S.Sink.kept sink.old) end line.new (S.Sink.kept sink.new)) }
 {
-    loop {
-        // No one match on the three answers: a pattern may not reach through `Ok` to an event, whose parts have ghost fields.
-        match line.take() {
-            Ok(taken) => match taken {
-                Some(event) => sink.put(event)?,
-                None => return Ok(Ok(())),
-            },
+    while let Some(taken) = line.take().transpose() {
+        match taken {
+            Ok(event) => sink.put(event)?,
             Err(fault) => return Ok(Err(fault)),
         }
     }
+    Ok(Ok(()))
 }

@@ -16,9 +16,9 @@ pub struct Recording<'a> {
 /// What is wrong with a word, or with the words as a whole.
 #[derive(Clone, Copy)]
 pub(crate) enum Flaw {
-    UnknownKind,
-    EmptyQuiet,
-    UsedSpareBits,
-    NoEnd,
-    WrongCount,
+    UnknownKind = 4,
+    EmptyQuiet = 5,
+    UsedSpareBits = 6,
+    NoEnd = 7,
+    WrongCount = 8,
 }

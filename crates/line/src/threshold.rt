@@ -28,6 +28,6 @@ impl Threshold {
     pub fn admits(self, height: Height) -> bool
         ensures { result ≡ admits self height }
     {
-        self.least.mv() <= height.mv()
+        self.least <= height
     }
 }

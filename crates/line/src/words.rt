@@ -11,7 +11,7 @@ fn word_in(chunk: &[u8; 4]) -> u32
 
 /// Writes the little-endian words of `bytes` over the front of `words`, as many as there is room for, and tells how many.
 /// Up to three bytes at the end that make no word are left out, and words that are not written over stay.
-// The number stands beside the words, which are the caller's: there is no heap here.
+// A number, and not the part of `words` that is written: that would go on lending the caller's words.
 pub fn from_bytes(bytes: &[u8], words: &mut [u32]) -> usize
     ensures { Packed bytes.now words.old result words.new }
 {

@@ -17,7 +17,7 @@ pub(crate) fn parity(bits: &[bool]) -> bool
 {
     let mut odd = false;
     for bit in bits {
-        odd = odd ^ *bit;
+        odd ^= *bit;
     }
     odd
 }

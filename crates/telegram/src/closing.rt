@@ -11,6 +11,7 @@ const SHORTEST_CLOSING: u32 = 72;
 const LONGEST_CLOSING: u32 = 4000;
 
 /// A closing quiet: 72 to 4,000 ticks.
+// A type of its own, for the reason that stands at `Ticks`.
 #[derive(Clone, Copy, PartialEq, Eq, Debug)]
 pub struct Closing {
     ticks: Ticks,
@@ -27,7 +28,7 @@ impl TryFrom<u32> for Closing {
     ghost try_from_gives = { ClosingMade };
 
     fn try_from(count: u32) -> Result<Closing, Refusal> {
-        if count < SHORTEST_CLOSING || count > LONGEST_CLOSING {
+        if !(SHORTEST_CLOSING..=LONGEST_CLOSING).contains(&count) {
             return Err(Refusal::ClosingOutOfRange);
         }
         let ticks = Ticks::try_from(count)?;

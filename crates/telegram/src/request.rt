@@ -5,6 +5,7 @@ pub mod coding;
 pub mod making;
 
 /// What a request holds: control is 0 or 1, address and information are 0 to 31.
+// Numbers all, and no truth value: a rule of the project gives control as 0 or 1, and text shows it so.
 #[derive(Clone, Copy, PartialEq, Eq, Debug)]
 pub struct Request {
     pub control: u8,

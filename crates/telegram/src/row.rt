@@ -8,7 +8,7 @@ pub mod pulses;
 pub mod reading;
 
 /// Up to 14 bits in the order of sending. A record's row has just as many as its kind, by a law of the kind.
-// An array and a count: there is no heap here, and the library's vector of fixed room cannot be copied as a row can.
+// An array and a count: the library's vector of fixed room cannot be copied, and whoever has a row may copy it.
 #[derive(Clone, Copy)]
 pub struct Row {
     bits: [bool; 14],

@@ -12,7 +12,6 @@ pub mod making;
 pub(crate) enum Due {
     Pulse(Polarity),
     Quiet,
-    Nothing,
 }
 
 /// The way from one pulse of a row to the next.
@@ -29,7 +28,7 @@ pub struct Sender<K: Kind> {
     telegram: K::Record,
     height: Height,
     closing: Ticks,
-    due: Due,
+    due: Option<Due>,
     at: usize,
 }
 

@@ -10,6 +10,7 @@ pub mod reading;
 
 /// What is kept of a train without fault so far: how many pulses it has, the ticks, slot and polarity of the last one, and
 /// its bits.
+// Ticks and polarity apart, and no `TimedPulse`: contracts and checks speak of each by itself.
 #[derive(Clone, Copy)]
 pub struct Sound {
     count: u16,

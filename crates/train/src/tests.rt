@@ -41,8 +41,10 @@ fn hear<L: Line>(heap: Global, line: &mut L) -> Result<Vec<TimedPulse>, Fail> {
         match line.take()? {
             None => return Ok(later),
             Some(Event::Quiet(ticks)) => {
-                let ticks = ticks.count().min(60000) as u16;
-                since_first = since_first.map(|t| t.saturating_add(ticks));
+                let Some(t) = since_first else {
+                    return Err(Fail::new("a quiet before the first pulse"));
+                };
+                since_first = Some(t.saturating_add(ticks.count().min(60000) as u16));
             }
             Some(Event::Pulse(polarity, _)) => match since_first {
                 Some(t) => later.push(pulse(t, polarity))?,
@@ -183,18 +185,20 @@ fn faults_of_single_pulses(rt: HostRuntime) {
     for t in [644, 65516] {
         answer_fault(&rt, &[pulse(t, Negative)], fault(7, 2, t));
     }
+    for t in [24, 48, 96] {
+        answer_fault(&rt, &[pulse(t, Negative)], fault(3, 2, t));
+    }
+    answer_fault(&rt, &[pulse(72, Positive)], fault(4, 2, 72));
+}
+
+#[test]
+fn faults_after_a_fair_pulse(rt: HostRuntime) {
+    let first = pulse(24, Positive);
+    answer_fault(&rt, &[first, pulse(32, Negative)], fault(2, 3, 32));
+    answer_fault(&rt, &[first, pulse(72, Negative)], fault(4, 3, 72));
     answer_fault(
         &rt,
-        &[pulse(24, Positive), pulse(32, Negative)],
-        fault(2, 3, 32),
-    );
-    answer_fault(
-        &rt,
-        &[
-            pulse(24, Positive),
-            pulse(48, Negative),
-            pulse(24, Positive),
-        ],
+        &[first, pulse(48, Negative), pulse(24, Positive)],
         fault(2, 4, 24),
     );
     answer_fault(
@@ -205,15 +209,6 @@ fn faults_of_single_pulses(rt: HostRuntime) {
             pulse(81, Positive),
         ],
         fault(2, 4, 81),
-    );
-    answer_fault(&rt, &[pulse(24, Negative)], fault(3, 2, 24));
-    answer_fault(&rt, &[pulse(48, Negative)], fault(3, 2, 48));
-    answer_fault(&rt, &[pulse(96, Negative)], fault(3, 2, 96));
-    answer_fault(&rt, &[pulse(72, Positive)], fault(4, 2, 72));
-    answer_fault(
-        &rt,
-        &[pulse(24, Positive), pulse(72, Negative)],
-        fault(4, 3, 72),
     );
 }
 

@@ -14,8 +14,8 @@ pub fn slot_of(t: u16) -> Option<u16>
     ensures value { Slot t result }
     ensures laws { WindowLaws t }
 {
-    let n = (t as u32 + EARLY) / SLOT_TICKS;
-    if n >= 1 && t as u32 <= SLOT_TICKS * n + LATE {
+    let n = (u32::from(t) + EARLY) / SLOT_TICKS;
+    if n >= 1 && u32::from(t) <= SLOT_TICKS * n + LATE {
         Some(n as u16)
     } else {
         None

@@ -41,7 +41,7 @@ impl TryFrom<u32> for Ticks {
     ghost try_from_gives = { TicksMade };
 
     fn try_from(count: u32) -> Result<Ticks, Refusal> {
-        if count < 1 || count > LONGEST {
+        if !(1..=LONGEST).contains(&count) {
             return Err(Refusal::TicksOutOfRange);
         }
         Ok(Ticks { count })

@@ -13,29 +13,23 @@ impl Flaw {
     pub(crate) fn at(self, place: usize) -> LineFault
         ensures { result ≡ fault self place }
     {
-        let cause = match self {
-            Flaw::UnknownKind => 4,
-            Flaw::EmptyQuiet => 5,
-            Flaw::UsedSpareBits => 6,
-            Flaw::NoEnd => 7,
-            Flaw::WrongCount => 8,
-        };
         LineFault {
-            cause,
+            cause: self as u32,
             place: place as u64,
         }
     }
 }
 
 // What `word` says as the word of number `place`: an event, that the line ends here, or a flaw.
+// The kinds are plain numbers: they are two bits of a recorder's word, and are met here alone.
 pub(crate) fn read_word(place: usize, word: u32) -> Result<Option<Event>, Flaw>
     ensures { Says place word result }
 {
     match word >> 30 {
-        0 => match Ticks::try_from(low_bits(word, 30)) {
-            Ok(ticks) => Ok(Some(Event::Quiet(ticks))),
-            Err(_) => Err(Flaw::EmptyQuiet),
-        },
+        0 => {
+            let ticks = Ticks::try_from(low_bits(word, 30)).map_err(|_| Flaw::EmptyQuiet)?;
+            Ok(Some(Event::Quiet(ticks)))
+        }
         1 if low_bits(word >> 13, 16) == 0 => {
             Ok(Some(Event::Pulse(Polarity::in_word(word), Height::in_word(word))))
         }

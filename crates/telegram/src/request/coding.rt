@@ -40,6 +40,7 @@ impl Kind for Requests {
     fn row(telegram: &Request) -> Row {
         let c = telegram.control;
         let (a, i) = (telegram.address, telegram.information);
+        // Bit by bit, so that the order of sending is read off here.
         let f = [
             bit(c, 0),
             bit(a, 4),

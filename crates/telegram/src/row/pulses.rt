@@ -17,32 +17,20 @@ fn gap(a: bool, b: bool) -> Option<Polarity>
 }
 
 impl Row {
-    // What the slot of this number holds: an even one the pulse of its bit, an odd one what the bits on both sides of it make.
-    #[tactic(auto, using(crate::proofs::Coding::slots_bit, crate::proofs::Coding::slots_gap, crate::proofs::Coding::slots_past))]
-    fn held_in(&self, slot: usize) -> Option<Polarity>
-        ensures value { result ≡ held (slots self.now.bits) slot }
-        ensures low { OnSome result (slot ≤ 26) }
-    {
-        let k = slot / 2;
-        if slot % 2 == 0 {
-            if k < self.len() {
-                Some(Polarity::from(self.bit(k)))
-            } else {
-                None
-            }
-        } else if k + 1 < self.len() {
-            gap(self.bit(k), self.bit(k + 1))
-        } else {
-            None
-        }
-    }
-
-    /// What the slot of this number holds when the row is sent: a pulse of some polarity, or none.
+    /// What the slot of this number holds when the row is sent: a pulse of some polarity, or none. An even slot has the pulse
+    /// of its bit, an odd one what the bits on both sides of it make.
+    #[tactic(auto, using(crate::proofs::Coding::slots_bit, crate::proofs::Coding::slots_gap, crate::proofs::Coding::slots_past, crate::proofs::Coding::coded))]
     pub fn pulse_in(&self, slot: usize) -> Option<Polarity>
         ensures value { result ≡ held (slots self.now.bits) slot }
         ensures coding { Coded self.now.bits }
         ensures low { OnSome result (slot ≤ 26) }
     {
-        self.held_in(slot)
+        let bits = self.as_slice();
+        let bit = *bits.get(slot / 2)?;
+        if slot % 2 == 0 {
+            Some(Polarity::from(bit))
+        } else {
+            gap(bit, *bits.get(slot / 2 + 1)?)
+        }
     }
 }

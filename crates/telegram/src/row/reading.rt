@@ -14,20 +14,28 @@ impl Row {
         self.count
     }
 
+    /// The bits.
+    pub fn as_slice(&self) -> &[bool]
+        ensures value { result.now ≡ self.now.bits }
+        ensures low { length result.now ≤ 14 }
+    {
+        &self.bits[..self.count]
+    }
+
     /// Bit `k`, or 0 where there is none.
     pub fn bit(&self, k: usize) -> bool
         ensures { result ≡ slice_index_or self.now.bits k false }
     {
-        k < self.count && self.bits[k]
+        self.as_slice().get(k).copied().unwrap_or(false)
     }
 
     /// Whether the bits between the first and the last have an odd sum.
     pub fn odd_between(&self) -> bool
         ensures { result ≡ odd (between self.now.bits) }
     {
-        if self.count < 2 {
-            return false;
+        match self.as_slice() {
+            [_, between @ .., _] => parity(between),
+            _ => false,
         }
-        parity(&self.bits[1..self.count - 1])
     }
 }

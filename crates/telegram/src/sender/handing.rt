@@ -18,17 +18,17 @@ use line::line::Line;
 pub const SLOT_TICKS: u32 = 24;
 
 // The way from slot `slot` of the row to its next pulse, if there is one more.
+// No type for slots: few contracts have the limit, and all others go by any slot.
+#[tactic(auto, using(crate::proofs::Coding::next_none))]
 fn next_pulse(row: &Row, slot: usize) -> Option<Step>
     requires { slot ≤ 26 }
     ensures { Next slot row.now.bits result }
 {
-    match row.pulse_in(slot + 1) {
-        Some(polarity) => Some(Step { slots: 1, polarity }),
-        None => match row.pulse_in(slot + 2) {
-            Some(polarity) => Some(Step { slots: 2, polarity }),
-            None => None,
-        },
+    if let Some(polarity) = row.pulse_in(slot + 1) {
+        return Some(Step { slots: 1, polarity });
     }
+    let polarity = row.pulse_in(slot + 2)?;
+    Some(Step { slots: 2, polarity })
 }
 
 // The quiet from a pulse to the next, one or two slots further on.
@@ -44,23 +44,22 @@ impl<K: Kind> Sender<K> {
     pub fn hand_over(&mut self) -> Option<Event>
         ensures { Took self.old.waits dry (Ok result) self.new.waits dry }
     {
-        match self.due {
+        match self.due? {
             Due::Pulse(polarity) => {
-                self.due = Due::Quiet;
+                self.due = Some(Due::Quiet);
                 Some(Event::Pulse(polarity, self.height))
             }
             Due::Quiet => match next_pulse(&K::row(&self.telegram), self.at) {
                 Some(step) => {
-                    self.due = Due::Pulse(step.polarity);
+                    self.due = Some(Due::Pulse(step.polarity));
                     self.at += step.slots;
                     Some(quiet(step.slots))
                 }
                 None => {
-                    self.due = Due::Nothing;
+                    self.due = None;
                     Some(Event::Quiet(self.closing))
                 }
             },
-            Due::Nothing => None,
         }
     }
 }

@@ -13,13 +13,10 @@ use crate::sender::{Due, Sender};
 use line::event::Height;
 
 // What is due first of the row.
-fn first_due(row: &Row) -> Due
+fn first_due(row: &Row) -> Option<Due>
     ensures { First row.now.bits result }
 {
-    match row.pulse_in(0) {
-        Some(polarity) => Due::Pulse(polarity),
-        None => Due::Nothing,
-    }
+    row.pulse_in(0).map(Due::Pulse)
 }
 
 impl<K: Kind> Sender<K> {

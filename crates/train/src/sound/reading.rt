@@ -28,9 +28,8 @@ impl Sound {
         ensures value { ToldAsKind K.Kind.BITS K.Kind.record_of self.now result }
         ensures laws { Reads K.Kind.BITS K.Kind.row_of K.Kind.record_of }
     {
-        match self.check_as::<K>() {
-            Ok(()) => Ok(K::record(&self.row)),
-            Err(cause) => Err(cause.at(self.count, self.t)),
-        }
+        self.check_as::<K>()
+            .map_err(|cause| cause.at(self.count, self.t))?;
+        Ok(K::record(&self.row))
     }
 }

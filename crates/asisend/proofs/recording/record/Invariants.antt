@@ -5,4 +5,4 @@ use Rattle.asisend.specs.Recording.{script_events}
 use Rattle.asisend.proofs.recording.record.Given as goal
 
 abbrev pub invariant-loop-command : goal.invariant-loop-command
-invariant-loop-command l = l.words.list.items ≡ map word_of (script_events (take l.command-index l.commands))
+invariant-loop-command l = l.sink.list.items ≡ map word_of (script_events (take l.command-index l.commands))
