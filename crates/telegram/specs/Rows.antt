@@ -1,13 +1,21 @@
--- What a contract sees of a row.
+-- What a row holds.
 --
--- Bits              the bits of a row, and what lies past them in its array
+-- row_bits r        the bits of a row
+-- Front r           how the bits of a row lie in its array
 -- Pushed w b r w'   adding b to the bits w answered r and left w'
-use Rattle.std.specs.Prelude.{◌≡◌, ◌+◌, ◌<◌, Bool, List, [], ◌∷◌, ◌++◌, length, Ok, Err, Result}
+use Rattle.std.specs.Prelude.{◌≡◌, ℕ, ◌+◌, ◌-◌, ◌<◌, ◌≤◌, Bool, false, List, [], ◌∷◌, ◌++◌, length, take, slice_index_or, slice_range, Ok, Err, Result}
+use Rattle.telegram.specs.declared.row.Row.{Row}
 use Rattle.telegram.specs.declared.row.growing.Full.{Full}
+use Rattle.telegram.specs.Bits.{between}
 
-pub record Bits : Type 0 where
-  pub bits : List Bool
-  pub spare : List Bool
+abbrev pub row_bits : Row → List Bool
+row_bits r = take r.count r.bits
+
+pub record Front (r : Row) : Type 0 where
+  pub inside : (k : ℕ) → k < r.count → slice_index_or (row_bits r) k false ≡ slice_index_or r.bits k false
+  pub outside : (k : ℕ) → r.count ≤ k → slice_index_or (row_bits r) k false ≡ false
+  pub middle : 2 ≤ r.count → between (row_bits r) ≡ slice_range r.bits 1 (r.count - 1)
+  pub short : r.count < 2 → between (row_bits r) ≡ []
 
 abbrev pub Pushed : List Bool → Bool → Result (Unit {0}) Full → List Bool → Type 0
 Pushed w b (Ok u) w' = (length w < 14) × (w' ≡ w ++ (b ∷ [])) × (length w' ≡ length w + 1)

@@ -5,8 +5,8 @@
 --                     slots from the one to the other, and so on; after the last pulse the closing quiet c. h is the height of all
 --                     pulses
 -- sent h c s          all that is handed over for the slots s of a row
--- Sending             what a contract sees of a sender: its height, its closing quiet, and what waits in it
--- Sends s w mv n      s is a sender of the row w, made for pulses of mv millivolts and a closing quiet of n ticks
+-- Sends               a sender of the row w, made for pulses of mv millivolts and a closing quiet of so many ticks: h and c are
+--                     its height and its closing quiet, es what waits in it
 -- SenderRefused       why a sender is not made: the height first, then the closing quiet
 use Rattle.std.specs.Prelude.{◌≡◌, ℕ, ◌+◌, ◌*◌, ◌<◌, ◌≤◌, Bool, ◌⊎◌, List, [], ◌∷◌, Some, None, Option}
 use Rattle.line.specs.declared.event.Event.{Event}
@@ -19,7 +19,7 @@ use Rattle.line.specs.Limits.{highest}
 use Rattle.telegram.specs.declared.refusal.Refusal.{Refusal}
 use Rattle.telegram.specs.Closings.{Unclosing}
 use Rattle.telegram.specs.Coding.{slots}
-use Rattle.telegram.specs.Limits.{longest_closing, shortest_closing}
+pub use Rattle.telegram.specs.Limits.{longest_closing, shortest_closing}
 use Rattle.telegram.specs.Refusals.{number}
 
 abbrev pub slot_ticks : ℕ
@@ -35,16 +35,11 @@ sent h c [] = []
 sent h c (None ∷ s) = sent h c s
 sent h c (Some p ∷ s) = Pulse p h ∷ onward h c 1 s
 
-pub record Sending : Type 0 where
-  pub height : Height
-  pub closing : Ticks
-  pub waits : List Event
-
-pub record Sends (s : Sending) (w : List Bool) (mv closing : ℕ) : Type 0 where
-  pub high : s.height.mv ≡ mv
-  pub long : s.closing.count ≡ closing
+pub record Sends (h : Height) (c : Ticks) (es : List Event) (w : List Bool) (mv closing : ℕ) : Type 0 where
+  pub high : h.mv ≡ mv
+  pub long : c.count ≡ closing
   pub within : (shortest_closing ≤ closing) × (closing ≤ longest_closing)
-  pub list : s.waits ≡ sent s.height s.closing (slots w)
+  pub list : es ≡ sent h c (slots w)
 
 abbrev pub SenderRefused : ℕ → ℕ → Refusal → Type 0
 SenderRefused mv closing e = ((highest < mv) × (number e ≡ 1)) ⊎ ((mv ≤ highest) × Unclosing closing × (number e ≡ 10))

@@ -1,6 +1,7 @@
 //! Kinds of telegram, by the laws that they keep.
 ghost use Rattle.std.specs.Prelude.{◌≡◌, ℕ, ◌≤◌, Bool, List, length};
 ghost use Rattle.telegram.specs.Bits.{Ends, Even, Proper};
+ghost use Rattle.telegram.specs.Rows.{row_bits};
 
 use crate::row::Row;
 
@@ -23,11 +24,11 @@ pub trait Kind {
 
     /// The row of a record.
     fn row(telegram: &Self::Record) -> Row
-        ensures { result.bits ≡ row_of telegram.now };
+        ensures { row_bits result ≡ row_of telegram.now };
 
     /// The record of a row; bits that the row lacks count as 0.
     fn record(row: &Row) -> Self::Record
-        ensures { result ≡ record_of row.now.bits };
+        ensures { result ≡ record_of (row_bits row.now) };
 
     /// There are at least 4 bits,
     ghost least: { 4 ≤ BITS };

@@ -1,7 +1,8 @@
 //! A line that sends one telegram.
+ghost use Rattle.std.specs.Prelude.{◌≤◌};
+
 use crate::kind::Kind;
 use line::event::{Height, Polarity, Ticks};
-use std::marker::Model;
 
 pub mod handing;
 pub mod making;
@@ -30,17 +31,5 @@ pub struct Sender<K: Kind> {
     closing: Ticks,
     due: Option<Due>,
     at: usize,
-}
-
-// Clauses see the height, the closing quiet, and what waits.
-impl<K: Kind> Model for Sender<K> {
-    ghost use Rattle.std.specs.Prelude.{◌≤◌};
-    ghost use Rattle.telegram.specs.Sending.{Sending};
-    ghost use Rattle.telegram.specs.Handing.{waiting};
-
-    ghost Value = { Sending };
-
-    ghost view = { λ s. record { height = s.height; closing = s.closing; waits = waiting s.height s.closing s.due s.at (K.Kind.row_of s.telegram) } };
-
-    ghost invariant = { λ s. s.at ≤ 26 };
+    ghost low: { at ≤ 26 },
 }

@@ -1,4 +1,7 @@
 //! Examples at the edges of the rules.
+ghost use Rattle.std.specs.Prelude.{◌≡◌, false, length};
+ghost use Rattle.telegram.specs.Rows.{row_bits};
+
 use crate::answer::Answer;
 use crate::answer::coding::Answers;
 use crate::kind::Kind;
@@ -114,6 +117,40 @@ fn a_row_grows_to_fourteen_bits(rt: HostRuntime) {
     assert!(rt; row.bit(12));
     assert!(rt; !row.bit(13));
     assert!(rt; !row.bit(14));
+}
+
+// No row has a bit past its fourteenth: its type says so.
+fn bit_past_the_most(row: &Row) -> bool
+    ensures { result ≡ false }
+{
+    row.bit(14)
+}
+
+// A value of a caller's that holds a row.
+#[derive(Clone, Copy)]
+struct Held {
+    row: Row,
+}
+
+fn held_bits(held: Held) -> usize
+    ensures { result ≡ length (row_bits held.row) }
+{
+    held.row.len()
+}
+
+#[test]
+fn what_holds_a_row_is_copied(rt: HostRuntime) -> Result<(), Fail> {
+    let mut row = Row::new();
+    for _ in 0..14 {
+        row.push(true)?;
+    }
+    assert!(rt; !bit_past_the_most(&row));
+    let held = Held { row };
+    assert_eq!(rt; held_bits(held) + held_bits(held), 28);
+    let mut rows = [row, Row::new()];
+    rows[1].push(false)?;
+    assert_eq!(rt; (rows[0].len(), rows[1].len()), (14, 1));
+    Ok(())
 }
 
 #[test]

@@ -11,6 +11,7 @@
 -- Rested size s r  what the checks at the rest answer of whatever train s tells, as a kind of so many bits
 use Rattle.std.specs.Prelude.{◌≡◌, ℕ, ◌+◌, ◌%◌, Bool, false, cond, List, [], ◌∷◌, ◌++◌, Some, None, Ok, Err, Result, ◌==◌}
 use Rattle.line.specs.declared.event.Polarity.{Polarity}
+use Rattle.telegram.specs.Rows.{row_bits}
 use Rattle.train.specs.declared.fault.Cause.{Cause}
 use Rattle.train.specs.declared.fault.Fault.{Fault}
 use Rattle.train.specs.declared.pulse.TimedPulse.{TimedPulse}
@@ -26,7 +27,7 @@ pub record Tells (s : Sound) (u : Train) : Type 0 where
   pub at : s.t ≡ (last_pulse u).t
   pub reached : s.slot ≡ last_slot u
   pub side : s.polarity ≡ (last_pulse u).polarity
-  pub seen : s.row.bits ≡ false ∷ bits u.later
+  pub seen : row_bits s.row ≡ false ∷ bits u.later
 
 abbrev pub Outcome : Train → Result Sound Fault → Type 0
 Outcome u (Ok s) = Tells s u
@@ -46,7 +47,7 @@ pub record Follows (s : Sound) (x : TimedPulse) (s' : Sound) : Type 0 where
   pub many : s'.count ≡ s.count + 1
   pub at : s'.t ≡ x.t
   pub side : s'.polarity ≡ x.polarity
-  pub seen : s'.row.bits ≡ more_bits s'.slot x.polarity s.row.bits
+  pub seen : row_bits s'.row ≡ more_bits s'.slot x.polarity (row_bits s.row)
 
 abbrev pub AsKind : {Record : Type 0} → ℕ → (List Bool → Record) → Train → Result Record Fault → Type 0
 AsKind size record_of u (Ok r) = CleanAs size u × (r ≡ record_of (row size u))
@@ -56,5 +57,5 @@ abbrev pub ToldAsKind : {Record : Type 0} → ℕ → (List Bool → Record) →
 ToldAsKind size record_of s r = (u : Train) → Tells s u → AsKind size record_of u r
 
 abbrev pub Rested : {A : Type 0} → ℕ → Sound → Result A Cause → Type 0
-Rested size s (Ok x) = (u : Train) → Tells s u → CleanAs size u × (s.row.bits ≡ row size u)
+Rested size s (Ok x) = (u : Train) → Tells s u → CleanAs size u × (row_bits s.row ≡ row size u)
 Rested size s (Err c) = (u : Train) → Tells s u → verdict (kind_good size) u ≡ faulty (fault c s.count s.t)

@@ -1,5 +1,6 @@
 //! What is kept of a train while it is sound.
 ghost use Rattle.std.specs.Prelude.{◌≡◌, ◌+◌, ◌/◌, ◌≤◌, length};
+ghost use Rattle.telegram.specs.Rows.{row_bits};
 
 use line::event::Polarity;
 use telegram::row::Row;
@@ -20,5 +21,5 @@ pub struct Sound {
     row: Row,
     ghost low: { slot ≤ 26 },
     ghost few: { count ≤ slot + 1 },
-    ghost filled: { length row.bits ≡ slot / 2 + 1 },
+    ghost filled: { length (row_bits row) ≡ slot / 2 + 1 },
 }

@@ -1,7 +1,10 @@
 //! Examples at the edges of the rules.
+ghost use Rattle.train.specs.Sounds.{Grows};
+
 use crate::fault::{Cause, Fault};
 use crate::pulse::TimedPulse;
 use crate::reader::Train;
+use crate::sound::Sound;
 use crate::windows::slot_of;
 use line::event::Event;
 use line::event::Polarity::{self, Negative, Positive};
@@ -232,6 +235,34 @@ fn the_first_fault_stays(rt: HostRuntime) {
         ],
         fault(3, 3, 48),
     );
+}
+
+// Two ways on from one train.
+fn either_way(
+    sound: Sound,
+    one: TimedPulse,
+    other: TimedPulse,
+) -> (Result<Sound, Fault>, Result<Sound, Fault>)
+    ensures one { Grows sound one result.0 }
+    ensures other { Grows sound other result.1 }
+{
+    (sound.later(one), sound.later(other))
+}
+
+#[test]
+fn a_train_is_copied(rt: HostRuntime) -> Result<(), Fail> {
+    let Ok(sound) = Sound::begin(Negative) else {
+        return Err(Fail::new("a negative first pulse"));
+    };
+    let (one, other) = either_way(sound, pulse(24, Positive), pulse(33, Positive));
+    assert!(rt; one.is_ok());
+    match other {
+        Ok(_) => Err(Fail::new("a pulse in no slot")),
+        Err(found) => {
+            assert_eq!(rt; found, fault(2, 2, 33));
+            Ok(())
+        }
+    }
 }
 
 #[test]

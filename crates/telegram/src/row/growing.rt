@@ -1,6 +1,6 @@
 //! How a row is begun and grows.
 ghost use Rattle.std.specs.Prelude.{◌≡◌, []};
-ghost use Rattle.telegram.specs.Rows.{Pushed};
+ghost use Rattle.telegram.specs.Rows.{Pushed, row_bits};
 
 use crate::row::Row;
 
@@ -11,7 +11,7 @@ pub struct Full;
 impl Row {
     /// A row with no bits yet.
     pub fn new() -> Row
-        ensures { result.bits ≡ [] }
+        ensures { row_bits result ≡ [] }
     {
         Row {
             bits: [false; 14],
@@ -21,7 +21,7 @@ impl Row {
 
     /// Adds `bit` at the end; a row of 14 bits is full and stays as it is.
     pub fn push(&mut self, bit: bool) -> Result<(), Full>
-        ensures { Pushed self.old.bits bit result self.new.bits }
+        ensures { Pushed (row_bits self.old) bit result (row_bits self.new) }
     {
         if self.count == 14 {
             return Err(Full);

@@ -1,6 +1,7 @@
 //! The pulses of a row.
 ghost use Rattle.std.specs.Prelude.{◌≡◌, ◌≤◌, OnSome};
 ghost use Rattle.telegram.specs.Coding.{Coded, gap, held, slots};
+ghost use Rattle.telegram.specs.Rows.{row_bits};
 
 use crate::row::Row;
 use line::event::Polarity;
@@ -21,8 +22,8 @@ impl Row {
     /// of its bit, an odd one what the bits on both sides of it make.
     #[tactic(auto, using(crate::proofs::Coding::slots_bit, crate::proofs::Coding::slots_gap, crate::proofs::Coding::slots_past, crate::proofs::Coding::coded))]
     pub fn pulse_in(&self, slot: usize) -> Option<Polarity>
-        ensures value { result ≡ held (slots self.now.bits) slot }
-        ensures coding { Coded self.now.bits }
+        ensures value { result ≡ held (slots (row_bits self.now)) slot }
+        ensures coding { Coded (row_bits self.now) }
         ensures low { OnSome result (slot ≤ 26) }
     {
         let bits = self.as_slice();

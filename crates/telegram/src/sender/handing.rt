@@ -4,7 +4,8 @@ ghost use Rattle.line.specs.declared.event.Event.TheVariants.{Quiet};
 ghost use Rattle.line.specs.Endings.{dry};
 ghost use Rattle.line.specs.Events.{ticks};
 ghost use Rattle.line.specs.Lines.{Took};
-ghost use Rattle.telegram.specs.Handing.{Next};
+ghost use Rattle.telegram.specs.Handing.{Next, waiting};
+ghost use Rattle.telegram.specs.Rows.{row_bits};
 ghost use Rattle.telegram.specs.Sending.{slot_ticks};
 
 use crate::kind::Kind;
@@ -22,7 +23,7 @@ pub const SLOT_TICKS: u32 = 24;
 #[tactic(auto, using(crate::proofs::Coding::next_none))]
 fn next_pulse(row: &Row, slot: usize) -> Option<Step>
     requires { slot ≤ 26 }
-    ensures { Next slot row.now.bits result }
+    ensures { Next slot (row_bits row.now) result }
 {
     if let Some(polarity) = row.pulse_in(slot + 1) {
         return Some(Step { slots: 1, polarity });
@@ -42,7 +43,7 @@ fn quiet(slots: usize) -> Event
 impl<K: Kind> Sender<K> {
     /// Hands over the next event, or none where all were; it never breaks.
     pub fn hand_over(&mut self) -> Option<Event>
-        ensures { Took self.old.waits dry (Ok result) self.new.waits dry }
+        ensures { Took (waiting self.old.height self.old.closing self.old.due self.old.at (K.Kind.row_of self.old.telegram)) dry (Ok result) (waiting self.new.height self.new.closing self.new.due self.new.at (K.Kind.row_of self.new.telegram)) dry }
     {
         match self.due? {
             Due::Pulse(polarity) => {
@@ -65,7 +66,7 @@ impl<K: Kind> Sender<K> {
 }
 
 impl<K: Kind> Line for Sender<K> {
-    ghost waits = { λ s. s.waits };
+    ghost waits = { λ s. waiting s.height s.closing s.due s.at (K.Kind.row_of s.telegram) };
 
     ghost ending = { λ s. dry };
 

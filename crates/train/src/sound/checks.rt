@@ -1,5 +1,6 @@
 //! The checks of a train that is sound so far.
 ghost use Rattle.std.specs.Prelude.{◌≡◌, ◌<◌, ◌≤◌, [], ◌∷◌, Decides};
+ghost use Rattle.telegram.specs.Rows.{row_bits};
 ghost use Rattle.train.specs.Checks.{CheckLaws, Checked, Near, Passes, SlotAfter, caught, next_even, rest_cause, top};
 
 use crate::fault::Cause;
@@ -51,7 +52,7 @@ impl Sound {
     // Checks the train at its rest, where `good` is its only good last slot: answers the first cause of fault, if there is
     // one, in the order length, end bit, parity.
     pub(crate) fn check_rest(&self, good: u16) -> Result<(), Cause>
-        ensures { caught result ≡ rest_cause (good ∷ []) self.now.slot self.now.polarity self.now.row.bits }
+        ensures { caught result ≡ rest_cause (good ∷ []) self.now.slot self.now.polarity (row_bits self.now.row) }
     {
         if self.slot != good {
             Err(Cause::Length)

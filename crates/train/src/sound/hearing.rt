@@ -1,5 +1,6 @@
 //! How a train is heard pulse by pulse.
 ghost use Rattle.std.specs.Prelude.{◌≡◌, ◌+◌, ◌-◌, ◌%◌, ◌<◌, ◌≤◌, length, Ok};
+ghost use Rattle.telegram.specs.Rows.{row_bits};
 ghost use Rattle.train.specs.Checks.{CheckLaws, Checked, next_even};
 ghost use Rattle.train.specs.Sounds.{Begun, Follows, Grows, more_bits};
 
@@ -11,9 +12,9 @@ use telegram::row::Row;
 
 // The bits of `row`, and one more for a pulse in the slot `slot` if that is even.
 fn with_pulse(mut row: Row, slot: u16, polarity: Polarity) -> Row
-    requires { length row.bits < 14 }
-    ensures value { result.bits ≡ more_bits slot polarity row.bits }
-    ensures long { length result.bits ≡ length row.bits + (1 - slot % 2) }
+    requires { length (row_bits row) < 14 }
+    ensures value { row_bits result ≡ more_bits slot polarity (row_bits row) }
+    ensures long { length (row_bits result) ≡ length (row_bits row) + (1 - slot % 2) }
 {
     if slot % 2 == 0 {
         row.push(polarity == Polarity::Positive).unwrap();

@@ -2,12 +2,13 @@
 use Rattle.std.proofs.Common.{◌≡◌, ◌+◌, ◌*◌, ◌≤◌, false, get_or, ap, ◌∙◌, add-one, arith, pow_mono}
 use mir.Val.{bool_byte}
 use Rattle.telegram.specs.Digits.{part, part_lt, value}
+use Rattle.telegram.specs.Rows.{row_bits}
 use Rattle.telegram.specs.Numbers.{listed_more, value-push}
 use Rattle.telegram.proofs.row.Row.field.Goals as goal
 
 pub loop-k-preserved : goal.loop-k-preserved
 loop-k-preserved c =
-    let w = c.args.self.now.bits in
+    let w = row_bits c.args.self.now in
     let from = c.args.from in
     let k = c.loop-k.k in
     let more = ap value (ap (λ n. part from n w) (add-one k) ∙ listed_more (λ i. get_or w (from + i) false) k) ∙ value-push (part from k w) (get_or w (from + k) false) in
@@ -18,7 +19,7 @@ loop-k-preserved c =
 
 pub returns : goal.returns
 returns c =
-    let w = c.args.self.now.bits in
+    let w = row_bits c.args.self.now in
     let all : value (part c.args.from c.loop-k.k w) ≡ value (part c.args.from c.args.width w) = ap (λ n. value (part c.args.from n w)) (omega arith) in
     let is = c.loop-k.invariant.0 ∙ all in
     record { value = is; low = omega (arith, is, part_lt c.args.from c.args.width w) }
