@@ -1,5 +1,5 @@
 -- The computed fault of a train's pulses is the first in the order of the pulses, and among the causes of a pulse.
-use Rattle.std.proofs.Common.{◌≡◌, ℕ, ◌+◌, ◌/◌, Bool, true, false, ◌&&◌, ltb, List, [], ◌∷◌, ◌++◌, length, Some, None, Ok, Err, Option, sym, refl, ◌∙◌, subst, inr, true≢false, arith}
+use Rattle.std.proofs.Common.{◌≡◌, ℕ, ◌+◌, ◌/◌, Bool, true, false, ◌&&◌, ltb, List, [], ◌∷◌, ◌++◌, length, Some, None, Ok, Err, Option, sym, refl, ap, ◌∙◌, subst, inr, true≢false, arith}
 use Rattle.std.proofs.lemmas.Bool.{ltb-false, ltb-true}
 use Rattle.std.proofs.lemmas.Option.{none-some}
 use Rattle.line.specs.declared.event.Polarity.{Polarity}
@@ -8,10 +8,10 @@ use Rattle.train.specs.declared.fault.Cause.{Cause}
 use Rattle.train.specs.declared.fault.Fault.{Fault}
 use Rattle.train.specs.declared.pulse.TimedPulse.{TimedPulse}
 use Rattle.train.specs.Checks.{Checked, alike, cause_of, check, next_even, top}
-use Rattle.train.specs.Faulted.{AllFair, FaultLaws, FaultyAfter}
+use Rattle.train.specs.Faulted.{AllFair, FaultLaws, FaultyAfter, Settles}
 use Rattle.train.specs.Faults.{fault}
 use Rattle.train.specs.Trains.{Train, last}
-use Rattle.train.specs.Verdicts.{blamed, later_fault, or_else}
+use Rattle.train.specs.Verdicts.{blamed, kind_good, later_fault, or_else, rest_fault, settled}
 use Rattle.train.specs.Windows.{in_slot, place}
 use Rattle.train.proofs.Carrying.{none_at}
 use Rattle.train.proofs.Checking.{after_tells, after_true, chain, checked_err, checked_ok}
@@ -71,14 +71,20 @@ some_found n y (x ∷ l) f e = go (cause_of y x) (meant (place y.t) y.polarity x
           is = grind (arith, r.is);
         }
 
+-- a fault of the pulses leaves nothing to the checks at the rest
+settles : (u : Train) → Settles u
+settles u b f e = ap (λ o. settled (or_else o (rest_fault (kind_good b) u)) u) e
+
 laws_of : (p : Polarity) (l : List TimedPulse) → FaultLaws (record { first = p; later = l })
 laws_of Positive l = record {
   faulty = λ f. (λ e. grind arith, λ h. grind arith);
   sound = (λ e. grind arith, λ h. grind arith);
+  settles = settles (record { first = Positive; later = l });
 }
 laws_of Negative l = record {
   faulty = λ f. (λ e. inr (refl, some_found 2 _ l f e), λ h. grind (arith, back f));
   sound = (λ e. (refl, none_fair 2 _ l e), λ h. fair_none 2 _ l h.1);
+  settles = settles (record { first = Negative; later = l });
 }
   where
     back : (f : Fault) → FaultyAfter 2 (record { t = 0; polarity = Negative }) l f → later_fault 2 (record { t = 0; polarity = Negative }) l ≡ Some f

@@ -5,6 +5,7 @@
 --                       are fair, and the next gives the cause
 -- FirstFault u f     f is the first fault of u's pulses
 -- Soundly u          u has none
+-- Settles u          the first fault of u's pulses is the verdict on u, as a kind of however many bits
 -- FaultLaws u        what the computed fault of u's pulses means
 use Rattle.std.specs.Prelude.{◌≡◌, ℕ, ◌+◌, ◌⊎◌, ◌↔◌, List, [], ◌∷◌, ◌++◌, length, Some, None, Ok, Err}
 use Rattle.line.specs.declared.event.Polarity.TheVariants.{Negative, Positive}
@@ -15,7 +16,7 @@ use Rattle.train.specs.declared.pulse.TimedPulse.{TimedPulse}
 use Rattle.train.specs.Checks.{Checked}
 use Rattle.train.specs.Faults.{fault}
 use Rattle.train.specs.Trains.{Train, last, opening}
-use Rattle.train.specs.Verdicts.{fault_of}
+use Rattle.train.specs.Verdicts.{fault_of, faulty, kind_good, verdict}
 use Rattle.train.specs.Windows.{place}
 
 abbrev pub AllFair : TimedPulse → List TimedPulse → Type 0
@@ -38,6 +39,10 @@ FirstFault u f = ((u.first ≡ Positive) × (f ≡ fault Start 1 0)) ⊎ ((u.fir
 abbrev pub Soundly : Train → Type 0
 Soundly u = (u.first ≡ Negative) × AllFair (opening u) u.later
 
+abbrev pub Settles : Train → Type 0
+Settles u = (b : ℕ) (f : Fault) → fault_of u ≡ Some f → verdict (kind_good b) u ≡ faulty f
+
 pub record FaultLaws (u : Train) : Type 0 where
   pub faulty : (f : Fault) → (fault_of u ≡ Some f) ↔ FirstFault u f
   pub sound : (fault_of u ≡ None) ↔ Soundly u
+  pub settles : Settles u
