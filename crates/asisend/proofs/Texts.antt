@@ -6,7 +6,7 @@ use Rattle.asisend.specs.declared.failure.Failure.TheVariants.{Memory, TooLong, 
 use Rattle.asisend.specs.Cutting.{FirstLine}
 use Rattle.asisend.specs.Scripts.{Begins, LineFailed, ScriptFailed, script_text}
 
-unread : (t : List ℕ) (cs : List Command) (r : List ℕ) → Begins t cs r → 0 < length r → t ≡ script_text cs ++ r
+pub unread : (t : List ℕ) (cs : List Command) (r : List ℕ) → Begins t cs r → 0 < length r → t ≡ script_text cs ++ r
 unread t cs r (inl e) some = e
 unread t cs r (inr e) some = absurd (omega (arith, ap length e.1))
 

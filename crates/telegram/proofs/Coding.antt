@@ -28,7 +28,7 @@ after_past a (b ∷ w) zero h = absurd (omega arith)
 after_past a (b ∷ w) (suc zero) h = absurd (omega arith)
 after_past a (b ∷ w) (suc (suc n)) h = after_past b w n (omega arith)
 
-bit_held : (w : List Bool) (k : ℕ) → k < length w → held (slots w) (2 * k) ≡ Some (polarity (get_or w k false))
+pub bit_held : (w : List Bool) (k : ℕ) → k < length w → held (slots w) (2 * k) ≡ Some (polarity (get_or w k false))
 bit_held [] k h = absurd (omega arith)
 bit_held (b ∷ w) zero h = refl
 bit_held (b ∷ w) (suc k) h = ap (held (slots (b ∷ w))) (two k) ∙ after_bit b w k (omega arith)

@@ -30,10 +30,10 @@ in_slot_other n m t h ne = grind (arith, nat_tests, h.early, h.late, h.later)
 
 -- a polarity that is not alike is the opposite one
 
-not_alike : (p q : Polarity) → alike p q ≡ false → q ≡ opposite p
+pub not_alike : (p q : Polarity) → alike p q ≡ false → q ≡ opposite p
 not_alike p q e = grind arith
 
-opposite_alike : (p : Polarity) → alike p (opposite p) ≡ false
+pub opposite_alike : (p : Polarity) → alike p (opposite p) ≡ false
 opposite_alike p = grind arith
 
 pub opposite_twice : (p : Polarity) → opposite (opposite p) ≡ p
