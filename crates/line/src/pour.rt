@@ -27,11 +27,15 @@ pub trait Sink {
 pub fn pour<L: Line, S: Sink>(line: &mut L, sink: &mut S) -> Result<Ending, S::Error>
     ensures { IfOk result (λ end. Poured L.Line.waits L.Line.ending S.Sink.kept_as line.old (S.Sink.kept sink.old) end line.new (S.Sink.kept sink.new)) }
 {
-    while let Some(taken) = line.take().transpose() {
-        match taken {
-            Ok(event) => sink.put(event)?,
+    // Two matches: with `transpose` in their place a recording of short answers cost `asisend` a sixth more instructions.
+    loop {
+        let taken = match line.take() {
+            Ok(taken) => taken,
             Err(fault) => return Ok(Err(fault)),
+        };
+        match taken {
+            Some(event) => sink.put(event)?,
+            None => return Ok(Ok(())),
         }
     }
-    Ok(Ok(()))
 }
