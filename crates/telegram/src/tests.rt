@@ -1,5 +1,5 @@
 //! Examples at the edges of the rules.
-ghost use Rattle.std.specs.Prelude.{◌≡◌, false, length};
+ghost use Rattle.std.specs.Prelude.{◌≡◌, ◌≢◌, false, length};
 ghost use Rattle.telegram.specs.Rows.{row_bits};
 
 use crate::answer::Answer;
@@ -58,6 +58,24 @@ fn records_out_of_their_ranges(rt: HostRuntime) -> Result<(), Fail> {
         assert_eq!(rt; made.map_err(Refusal::number), Err(9));
     }
     Ok(())
+}
+
+// A refusal of ticks in another layer has the number 2; no refusal here has, by its type.
+fn number_here(refusal: Refusal) -> u8
+    ensures { result ≢ 2 }
+{
+    refusal.number()
+}
+
+#[test]
+fn numbers_of_refusals(rt: HostRuntime) {
+    for (refusal, number) in [
+        (Refusal::HeightOutOfRange, 1),
+        (Refusal::FieldOutOfRange, 9),
+        (Refusal::ClosingOutOfRange, 10),
+    ] {
+        assert_eq!(rt; number_here(refusal), number);
+    }
 }
 
 #[test]
