@@ -1,6 +1,8 @@
 //! How a sender hands over.
-ghost use Rattle.std.specs.Prelude.{◌≡◌, ◌*◌, ◌≤◌, Ok};
-ghost use Rattle.line.specs.declared.event.Event.TheVariants.{Quiet};
+ghost use Rattle.std.specs.Prelude.{◌≡◌, ◌*◌, ◌≤◌, Some, Ok};
+ghost use Rattle.line.specs.declared.event.Event.TheVariants.{Pulse, Quiet};
+ghost use Rattle.line.specs.declared.event.Height.{Height};
+ghost use Rattle.line.specs.declared.event.Polarity.{Polarity};
 ghost use Rattle.line.specs.Endings.{dry};
 ghost use Rattle.line.specs.Events.{ticks};
 ghost use Rattle.line.specs.Lines.{Took};
@@ -41,9 +43,10 @@ fn quiet(slots: usize) -> Event
 }
 
 impl<K: Kind> Sender<K> {
-    /// Hands over the next event, or none where all were; it never breaks.
+    /// Hands over the next event, or none where all were; it never breaks. A pulse has the sender's height.
     pub fn hand_over(&mut self) -> Option<Event>
-        ensures { Took (waiting self.old.height self.old.closing self.old.due self.old.at (K.Kind.row_of self.old.telegram)) dry (Ok result) (waiting self.new.height self.new.closing self.new.due self.new.at (K.Kind.row_of self.new.telegram)) dry }
+        ensures taken { Took (waiting self.old.height self.old.closing self.old.due self.old.at (K.Kind.row_of self.old.telegram)) dry (Ok result) (waiting self.new.height self.new.closing self.new.due self.new.at (K.Kind.row_of self.new.telegram)) dry }
+        ensures height { (p : Polarity) (h : Height) → result ≡ Some (Pulse p h) → h ≡ self.old.height }
     {
         match self.due? {
             Due::Pulse(polarity) => {
