@@ -1,5 +1,5 @@
 //! Examples at the edges of the rules.
-ghost use Rattle.std.specs.Prelude.{◌≡◌, ◌≢◌, false, length};
+ghost use Rattle.std.specs.Prelude.{◌≡◌, ◌≢◌, Some, false, length};
 ghost use Rattle.telegram.specs.Rows.{row_bits};
 
 use crate::answer::Answer;
@@ -13,6 +13,7 @@ use crate::row::growing::Full;
 use crate::sender::Sender;
 use line::event::{Event, Height, Polarity, Ticks};
 use line::line::Line;
+use line::refusal::Refusal as EventRefusal;
 use std::fmt::Debug;
 use std::process::Abort;
 use std::test::Fail;
@@ -75,6 +76,27 @@ fn numbers_of_refusals(rt: HostRuntime) {
         (Refusal::ClosingOutOfRange, 10),
     ] {
         assert_eq!(rt; number_here(refusal), number);
+    }
+}
+
+// No two refusals of `line` become the same one here: which it was can be told.
+fn told_again(refusal: EventRefusal) -> Option<EventRefusal>
+    ensures { result ≡ Some refusal }
+{
+    match Refusal::from(refusal) {
+        Refusal::HeightOutOfRange => Some(EventRefusal::HeightOutOfRange),
+        Refusal::FieldOutOfRange => None,
+        Refusal::ClosingOutOfRange => Some(EventRefusal::TicksOutOfRange),
+    }
+}
+
+#[test]
+fn refusals_of_line_are_told_apart(rt: HostRuntime) {
+    for refusal in [
+        EventRefusal::HeightOutOfRange,
+        EventRefusal::TicksOutOfRange,
+    ] {
+        assert_eq!(rt; told_again(refusal), Some(refusal));
     }
 }
 
